@@ -1,1 +1,4 @@
 pub mod Carrier
+pub mod Several
+pub mod Polynomial
+pub mod Combination

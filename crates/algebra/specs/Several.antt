@@ -1,0 +1,19 @@
+-- What is said of the entries of a list: of all of them, of one among them, and that no two are the same.
+use mathlib.Core.Path.{_≡_}
+use mathlib.Core.Logic.{_≢_, _⊎_}
+use mathlib.Core.List.{List, [], _∷_}
+
+-- every entry has P
+abbrev pub All : {A : Type 0} → (A → Type 0) → List A → Type 0
+All P [] = Unit
+All P (a ∷ rest) = P a × All P rest
+
+-- a is an entry
+abbrev pub In : {A : Type 0} → A → List A → Type 0
+In a [] = ⊥
+In a (b ∷ rest) = (a ≡ b) ⊎ In a rest
+
+-- the entries are different from each other
+abbrev pub Distinct : {A : Type 0} → List A → Type 0
+Distinct [] = Unit
+Distinct (a ∷ rest) = All (λ b. a ≢ b) rest × Distinct rest
