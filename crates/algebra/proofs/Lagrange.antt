@@ -1,7 +1,7 @@
 -- Lagrange's form: the value of the polynomial through points is the combination of its values there by the points' weights.
 use mathlib.Core.Path.{_≡_, refl, sym, ap, ap₂, subst, _∙_}
 use mathlib.Core.Logic.{_≢_, _⊎_, inl, inr, ⊎-elim}
-use mathlib.Core.Bool.{Bool, true, false, true≢false}
+use mathlib.Core.Bool.{Bool, true, false}
 use mathlib.Core.List.{List, [], _∷_, map}
 use Prim.Native.Nat.{ℕ, zero, suc, _≤_, zero-le, suc-le-suc}
 use native.Mathlib.Nat.{le-of-eq, le-trans, le-refl, le-step}
@@ -10,7 +10,7 @@ use Rattle.algebra.specs.Carrier.{Carrier, Laws, Inverts}
 use Rattle.algebra.specs.Several.{All, In, Distinct}
 use Rattle.algebra.specs.Polynomial.{value, raised, interpolate, factor, weight}
 use Rattle.algebra.specs.Combination.{combined, itself}
-use Rattle.algebra.proofs.Ring.{ring, same-of-sum, none-product, product-none, product-comm, unit-product, none-sum}
+use Rattle.algebra.proofs.Ring.{ring, same-of-sum, not-same, same-not, none-product, product-none, product-comm, unit-product, none-sum}
 use Rattle.algebra.proofs.Several.{all-at, all-of, all-both}
 use Rattle.algebra.proofs.Combination.{total}
 use Rattle.algebra.proofs.Interpolation.{added, added-value, added-short, raised-value, raised-length, agree, through, through-length, through-points}
@@ -124,22 +124,12 @@ module _ {A : Type 0} (K : Carrier A) (L : Laws K) where
         (given-product ps p)
     given-weight (q ∷ ps) p (inr i) = given-factor p q (given-weight ps p i)
 
-    apart : (p q : A) → same p q ≡ false → p ≢ q
-    apart p q e h = true≢false (sym (L .same-self p) ∙ ap (same p) h ∙ e)
-
-    together : (p q : A) → p ≢ q → same p q ≡ false
-    together p q ne = go (same p q) refl
-      where
-        go : (s : Bool) → same p q ≡ s → s ≡ false
-        go true e = absurd (ne (L .same-sound p q e))
-        go false e = refl
-
     factor-own : (p q : A) → factor K inverse p p q ≡ unit
     factor-own p q = go (same p q) refl
       where
         go : (s : Bool) → same p q ≡ s → factor K inverse p p q ≡ unit
         go true e = factor-same K inverse p p q e
-        go false e = factor-other K inverse p p q e ∙ inv (p ⊕ q) (λ z. apart p q e (same-of-sum K L p q z))
+        go false e = factor-other K inverse p p q e ∙ inv (p ⊕ q) (λ z. not-same K L p q e (same-of-sum K L p q z))
 
     -- a weight is 1 at its own point
     pub weight-own : (ps : List A) (p : A) → weight K inverse ps p p ≡ unit
@@ -152,7 +142,7 @@ module _ {A : Type 0} (K : Carrier A) (L : Laws K) where
     unfolding weight
     weight-other (r ∷ ps) p q (inl e) ne =
         ap (λ (y : A). y ⊗ weight K inverse ps p q)
-        (factor-other K inverse p q r (together p r (λ h. ne (h ∙ sym e))) ∙ ap (λ (y : A). (q ⊕ y) ⊗ inverse (p ⊕ r)) (sym e)
+        (factor-other K inverse p q r (same-not K L p r (λ h. ne (h ∙ sym e))) ∙ ap (λ (y : A). (q ⊕ y) ⊗ inverse (p ⊕ r)) (sym e)
         ∙ ap (λ (y : A). y ⊗ inverse (p ⊕ r)) (L .plus-self q) ∙ none-product K L _)
         ∙ none-product K L _
     weight-other (r ∷ ps) p q (inr i) ne =

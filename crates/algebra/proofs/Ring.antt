@@ -1,10 +1,11 @@
 -- The laws of a carrier as one set for `simp`: with it every identity of sums and products is proved in a step.
 use mathlib.Core.Path.{_≡_, refl, sym, ap, _∙_}
-use mathlib.Core.Logic.{_≢_, _⊎_}
+use mathlib.Core.Logic.{_≢_, _⊎_, inl, inr}
+use mathlib.Core.Bool.{Bool, true, false, true≢false}
 use Rattle.algebra.specs.Carrier.{Carrier, Laws}
 
 module _ {A : Type 0} (K : Carrier A) (L : Laws K) where
-  open Carrier K using (none, unit, plus as _⊕_, times as _⊗_)
+  open Carrier K using (none, unit, plus as _⊕_, times as _⊗_, same)
 
   infixl 60 _⊕_
   infixl 70 _⊗_
@@ -61,5 +62,22 @@ module _ {A : Type 0} (K : Carrier A) (L : Laws K) where
   pub same-of-sum : (a b : A) → a ⊕ b ≡ none → a ≡ b
   same-of-sum a b e =
       sym (sum-none a) ∙ ap (λ (x : A). a ⊕ x) (sym (sum-self b)) ∙ sym (sum-assoc a b b) ∙ ap (λ (x : A). x ⊕ b) e ∙ none-sum b
+
+  pub not-same : (a b : A) → same a b ≡ false → a ≢ b
+  not-same a b e h = true≢false (sym (L .same-self a) ∙ ap (same a) h ∙ e)
+
+  pub decided : (a b : A) → (a ≡ b) ⊎ (a ≢ b)
+  decided a b = go (same a b) refl
+    where
+      go : (s : Bool) → same a b ≡ s → (a ≡ b) ⊎ (a ≢ b)
+      go true e = inl (L .same-sound a b e)
+      go false e = inr (not-same a b e)
+
+  pub same-not : (a b : A) → a ≢ b → same a b ≡ false
+  same-not a b ne = go (same a b) refl
+    where
+      go : (s : Bool) → same a b ≡ s → s ≡ false
+      go true e = absurd (ne (L .same-sound a b e))
+      go false e = refl
 
 pub ruleset ring = (sum-assoc, sum-comm, sum-left-comm, sum-none, none-sum, sum-self, sum-self-left, product-assoc, product-comm, product-left-comm, product-unit, unit-product, product-sum, sum-product, product-none, none-product)

@@ -1,0 +1,1 @@
+// Three bytes as a column.
