@@ -179,13 +179,26 @@ module _ {A : Type 0} (K : Carrier A) (L : Laws K) where
           ap₂ (λ (x y : A). x ⊗ f p ⊕ y) (other p (all-at _ ps (d .0) t i)) (mixed-at W t ps own other (d .1) i)
           ∙ ap (λ (x : A). x ⊕ f t) (none-product K L (f p)) ∙ none-sum K L (f t)
 
-      -- the value at t of the polynomial through the points
+      -- a polynomial with as many coefficients as points is the combination of its values there by the points' weights
+      pub mixed-again : (g : A → A) (ps : List A) → Given K (length ps) g → All (λ p. g p ≡ f p) ps → Distinct ps → (t : A)
+          → g t ≡ combined (itself K) (map (λ p. weight K inverse ps p t) ps) (map f ps)
+      mixed-again g ps b e d =
+          given-agree ps d b (given-mixed (weight K inverse ps) (length ps) ps (all-of _ ps (given-weight ps)))
+          (all-of _ ps (λ p i. all-at _ ps e p i
+            ∙ sym (mixed-at (weight K inverse ps) p ps (weight-own ps p) (λ q ne. weight-other ps q p i ne) d i)))
+
+      -- Lagrange's form of the polynomial through the points
       pub lagrange : (ps : List A) → Distinct ps → (t : A)
           → value K (interpolate K inverse ps (map f ps)) t
-          ≡ combined (itself K) (map (λ p. weight K inverse ps p t) ps) (map f ps)
+            ≡ combined (itself K) (map (λ p. weight K inverse ps p t) ps) (map f ps)
       lagrange ps d =
-          given-agree ps d
+          mixed-again (value K (through K inverse f ps)) ps
           (record { coefficients = through K inverse f ps; short = le-of-eq (through-length K L inverse inv f ps); values = λ x. refl })
-          (given-mixed (weight K inverse ps) (length ps) ps (all-of _ ps (given-weight ps)))
-          (all-of _ ps (λ p i. all-at _ ps (through-points K L inverse inv f ps d) p i
-          ∙ sym (mixed-at (weight K inverse ps) p ps (weight-own ps p) (λ q ne. weight-other ps q p i ne) d i)))
+          (through-points K L inverse inv f ps d) d
+
+    -- the way from the points qs to t by way of as many points ps is the way from qs to t
+    pub by-way : (ps qs : List A) → Distinct ps → length qs ≡ length ps → (q : A) → In q qs → (t : A)
+        → weight K inverse qs q t ≡ combined (itself K) (map (λ p. weight K inverse ps p t) ps) (map (weight K inverse qs q) ps)
+    by-way ps qs d h q i =
+        mixed-again (weight K inverse qs q) (weight K inverse qs q) ps
+        (subst (λ (n : ℕ). Given K n (weight K inverse qs q)) h (given-weight qs q i)) (all-of _ ps (λ p j. refl)) d
