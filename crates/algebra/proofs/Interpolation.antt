@@ -3,7 +3,7 @@ use mathlib.Core.Path.{_≡_, refl, sym, ap, ap₂, _∙_}
 use mathlib.Core.Logic.{_≢_}
 use mathlib.Core.List.{List, [], _∷_, map}
 use Prim.Native.Nat.{ℕ, zero, suc, _≤_, _<_, zero-le, suc-le-suc}
-use native.Mathlib.Nat.{le-of-suc-le-suc, not-suc-le-zero, le-of-eq, suc-inj, suc-ne-zero}
+use native.Mathlib.Nat.{le-of-suc-le-suc, not-suc-le-zero, le-trans, le-of-eq, suc-inj, suc-ne-zero}
 use lib.ListN.{length}
 use Rattle.algebra.specs.Carrier.{Carrier, Laws, Inverts}
 use Rattle.algebra.specs.Several.{All, In, Distinct}
@@ -82,6 +82,11 @@ module _ {A : Type 0} (K : Carrier A) (L : Laws K) where
   one-list (c ∷ cs) [] h z = absurd (suc-ne-zero (length cs) h)
   one-list (c ∷ cs) (d ∷ ds) h z = ap₂ _∷_ (same-of-sum K L c d (z .0)) (one-list cs ds (suc-inj h) (z .1))
 
+  -- and are one list where they are of one length
+  pub one-polynomial : (ps cs ds : List A) → Distinct ps → length cs ≤ length ps → length cs ≡ length ds
+      → All (λ p. value K cs p ≡ value K ds p) ps → cs ≡ ds
+  one-polynomial ps cs ds d h k e = one-list cs ds k (no-difference ps cs ds d h (le-trans (le-of-eq (sym k)) h) e)
+
   -- the value of y + (x - p) g
   raised-step : (y p g x v w : A) → w ≡ g ⊕ (x ⊕ p) ⊗ v → y ⊕ p ⊗ g ⊕ x ⊗ w ≡ y ⊕ (x ⊕ p) ⊗ (g ⊕ x ⊗ v)
   raised-step y p g x v w e = ap (λ (z : A). y ⊕ p ⊗ g ⊕ x ⊗ z) e ∙ simp (ring, L)
@@ -148,9 +153,8 @@ module _ {A : Type 0} (K : Carrier A) (L : Laws K) where
     pub through-only : (f : A → A) (ps cs : List A) → Distinct ps → length cs ≡ length ps → All (λ p. value K cs p ≡ f p) ps
         → cs ≡ through K inverse f ps
     through-only f ps cs d h e =
-        one-list cs (through K inverse f ps) (h ∙ sym (through-length f ps))
-        (no-difference ps cs (through K inverse f ps) d (le-of-eq h) (le-of-eq (through-length f ps))
-        (all-both (λ p u v. u ∙ sym v) ps e (through-points f ps d)))
+        one-polynomial ps cs (through K inverse f ps) d (le-of-eq h) (h ∙ sym (through-length f ps))
+        (all-both (λ p u v. u ∙ sym v) ps e (through-points f ps d))
 
     -- from its values at as many different points as it has coefficients a polynomial is known everywhere
     pub recovered : (cs ps : List A) → Distinct ps → length cs ≤ length ps → (x : A)

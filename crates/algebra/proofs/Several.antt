@@ -1,5 +1,5 @@
 -- Laws of `All`, `In` and `Distinct`.
-use mathlib.Core.Path.{_≡_, refl, sym, subst}
+use mathlib.Core.Path.{_≡_, refl, sym, ap₂, subst}
 use mathlib.Core.Logic.{_≢_, _⊎_, inl, inr}
 use mathlib.Core.List.{List, [], _∷_, map}
 use Rattle.algebra.specs.Several.{All, In, Distinct}
@@ -18,3 +18,8 @@ all-of P (b ∷ l) h = (h b (inl refl), all-of P l (λ a i. h a (inr i)))
 pub all-both : {A : Type 0} {P Q R : A → Type 0} → ((a : A) → P a → Q a → R a) → (l : List A) → All P l → All Q l → All R l
 all-both f [] h k = tt
 all-both f (a ∷ l) h k = (f a (h .0) (k .0), all-both f l (h .1) (k .1))
+
+-- functions that agree at every entry give the same list
+pub map-same : {A B : Type 0} (f g : A → B) (l : List A) → All (λ a. f a ≡ g a) l → map f l ≡ map g l
+map-same f g [] h = refl
+map-same f g (a ∷ l) h = ap₂ _∷_ (h .0) (map-same f g l (h .1))
