@@ -1,0 +1,12 @@
+pub mod Additive
+pub mod Byte
+pub mod Cases
+pub mod Inverses
+pub mod Laws
+pub mod Numbers
+pub mod Places
+pub mod Powers
+pub mod Product
+pub mod Rows
+pub mod Sum
+pub mod Test
