@@ -25,12 +25,12 @@ module _ (f g : ℕ → ℕ) (f-plus : Additive f) (g-plus : Additive g) where
   pub agree : (k : ℕ) → ((i : ℕ) → i < k → f (2 ^ i) ≡ g (2 ^ i)) → (n : ℕ) → n < 2 ^ k → f n ≡ g n
   agree zero h n b = ap f (omega arith) ∙ at-none f f-plus ∙ sym (at-none g g-plus) ∙ ap g (omega arith)
   agree (suc k) h n b =
-      elim (decLt n (2 ^ k))
-      [ yes below ↦ agree k (λ i hi. h i (omega arith)) n below
-      | no above ↦
-        let rest : n - 2 ^ k < 2 ^ k = omega (arith, pow-suc 2 k) in
-        let sum = apart k n (omega arith) rest in
-        ap f sum ∙ f-plus (2 ^ k) (n - 2 ^ k)
-        ∙ ap₂ plus (h k (omega arith)) (agree k (λ i hi. h i (omega arith)) (n - 2 ^ k) rest)
-        ∙ sym (g-plus (2 ^ k) (n - 2 ^ k)) ∙ ap g (sym sum)
+      elim (decLt n (2 ^ k)) [
+        | yes below ↦ agree k (λ i hi. h i (omega arith)) n below
+        | no above ↦
+            let rest : n - 2 ^ k < 2 ^ k = omega (arith, pow-suc 2 k) in
+            let sum = apart k n (omega arith) rest in
+            ap f sum ∙ f-plus (2 ^ k) (n - 2 ^ k)
+            ∙ ap₂ plus (h k (omega arith)) (agree k (λ i hi. h i (omega arith)) (n - 2 ^ k) rest)
+            ∙ sym (g-plus (2 ^ k) (n - 2 ^ k)) ∙ ap g (sym sum)
       ]

@@ -41,7 +41,7 @@ field =
       none = (0, lit< tt);
       unit = (1, lit< tt);
       plus = λ a b. (plain.plus (a .0) (b .0), plus-lt (a .0) (b .0) (a .1) (b .1));
-      times = λ a b. (plain.times (a .0) (b .0), product.times-lt (a .0) (b .0) (a .1))
+      times = λ a b. (plain.times (a .0) (b .0), product.times-lt (a .0) (b .0) (a .1));
     }
 
 abbrev pub inverse : Byte → Byte
@@ -71,7 +71,7 @@ laws =
       times-plus = λ a b c. same (product.times-plus (a .0) (b .0) (c .0));
       no-zero-divisors = no-zero-divisors;
       unit-not-none = λ e. let z : _≡_ {A = ℕ} 1 0 = ap number e in omega arith;
-      decided = Σ-prop-discrete (λ n. le-prop) ℕ-discrete
+      decided = Σ-prop-discrete (λ n. le-prop) ℕ-discrete;
     }
 
 -- the numbers of the constants, of a sum, a product and an inverse are those of the definitions

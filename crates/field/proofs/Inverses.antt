@@ -12,7 +12,7 @@ use borrow.Author.Tests.{eqb-true, eqb-false}
 use Rattle.field.specs.Byte.{plus, xtime, product, times, power, inverse-below, inverse}
 use Rattle.field.proofs.Product.{times-none, times-lt}
 use Rattle.field.proofs.Laws.{times-unit, times-comm, times-assoc}
-use Rattle.field.proofs.Powers.{power-lt, power-add}
+use Rattle.field.proofs.Power.{power-lt, power-add}
 use Rattle.field.proofs.Places.{places, place-lt, place-at}
 
 -- where a number below n is an inverse of a, the search finds one
@@ -23,6 +23,7 @@ found (suc n) a b h e = go (eqb (times a n) 1) refl (λ below. found n a b below
   where
     Found : ℕ → ℕ → Type 0
     Found n m = (m < n) × (times a m ≡ 1)
+
     go : (t : Bool) → eqb (times a n) 1 ≡ t → (b < n → Found n (inverse-below n a))
         → Found (suc n) (elim t as (λ x. ℕ) [ true ↦ n | false ↦ inverse-below n a ])
     go true q rest = (omega arith, eqb-true (times a n) 1 q)
@@ -75,19 +76,19 @@ module _ (a : ℕ) (ha : a < 256) (some : a ≢ 0) where
 
 pub inverse-lt : (a : ℕ) → a < 256 → inverse a < 256
 inverse-lt a ha =
-    elim (ℕ-discrete a 0)
-    [ yes e ↦ omega (arith, ap inverse e ∙ inverse-none)
-    | no some ↦ omega (arith, inverse-is a ha some, power-lt 3 (255 - place a ha some))
+    elim (ℕ-discrete a 0) [
+      | yes e ↦ omega (arith, ap inverse e ∙ inverse-none)
+      | no some ↦ omega (arith, inverse-is a ha some, power-lt 3 (255 - place a ha some))
     ]
 
 pub no-zero-divisors : (a b : ℕ) → a < 256 → b < 256 → times a b ≡ 0 → (a ≡ 0) ⊎ (b ≡ 0)
 no-zero-divisors a b ha hb e =
-    elim (ℕ-discrete a 0)
-    [ yes none ↦ inl none
-    | no some ↦
-      let i : inverse a < 256 = inverse-lt a ha in
-      inr
-      (sym (times-unit b hb) ∙ times-comm b 1 hb (omega arith)
-      ∙ ap (λ (x : ℕ). times x b) (sym (times-comm (inverse a) a i ha ∙ times-inverse a ha some))
-      ∙ times-assoc (inverse a) a b i ha hb ∙ ap (times (inverse a)) e ∙ times-none (inverse a))
+    elim (ℕ-discrete a 0) [
+      | yes none ↦ inl none
+      | no some ↦
+          let i : inverse a < 256 = inverse-lt a ha in
+          inr
+          (sym (times-unit b hb) ∙ times-comm b 1 hb (omega arith)
+          ∙ ap (λ (x : ℕ). times x b) (sym (times-comm (inverse a) a i ha ∙ times-inverse a ha some))
+          ∙ times-assoc (inverse a) a b i ha hb ∙ ap (times (inverse a)) e ∙ times-none (inverse a))
     ]

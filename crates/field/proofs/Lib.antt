@@ -3,9 +3,10 @@ pub mod Byte
 pub mod Cases
 pub mod Inverses
 pub mod Laws
+pub mod Lookups
 pub mod Numbers
 pub mod Places
-pub mod Powers
+pub mod Power
 pub mod Product
 pub mod Rows
 pub mod Sum

@@ -4,21 +4,21 @@ use mathlib.Core.List.{List, [], _∷_}
 use Prim.Native.Nat.{ℕ}
 use Rattle.field.specs.Byte.{plus, xtime, product, times, inverse-below, inverse}
 
-data Case : Type 0 where
+pub data Case : Type 0 where
   -- the product of two bytes is a third
   product-is : ℕ → ℕ → ℕ → Case
   -- the inverse of a byte is another
   inverse-is : ℕ → ℕ → Case
 
-Holds : Case → Type 0
+unfoldable pub Holds : Case → Type 0
 Holds (product-is a b c) = times a b ≡ c
 Holds (inverse-is a b) = inverse a ≡ b
 
-All : List Case → Type 0
+unfoldable pub All : List Case → Type 0
 All [] = Unit {0}
 All (x ∷ xs) = Holds x × All xs
 
-cases : List Case
+unfoldable pub cases : List Case
 cases =
     product-is 0x57 0x83 0xc1
     ∷ product-is 0x57 0x13 0xfe

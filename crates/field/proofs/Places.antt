@@ -9,7 +9,7 @@ use lib.Dec.{T, eqb, ltb, eqb→eq, ltb→lt}
 use lib.ListN.{getD}
 use Rattle.field.specs.Byte.{plus, xtime, product, times, power}
 use Rattle.field.proofs.Test.{both, every, at}
-use Rattle.field.proofs.Powers.{powers, table, table-at}
+use Rattle.field.proofs.Power.{powers, table, table-at}
 
 -- the first place of a in a list, counted from k; 0 where it has none
 unfoldable pub seek : ℕ → ℕ → List ℕ → ℕ
@@ -50,3 +50,9 @@ place-at (suc a) h n =
     let near : getD places (suc a) 0 < 510 = omega (arith, place-lt (suc a) h) in
     sym (table-at (getD places (suc a) 0) near)
     ∙ eqb→eq (getD table (getD places (suc a) 0) 0) (suc a) (at 255 right right-all a (omega arith))
+
+-- what is read in the table of places at a
+pub place-read : (a i r : ℕ) → a < 256 → i ≡ a → r ≡ getD places i 0 → (r < 255) × (a ≢ 0 → power 3 r ≡ a)
+place-read a i r h e read =
+    let at-a : r ≡ getD places a 0 = read ∙ ap (λ (x : ℕ). getD places x 0) e in
+    (omega (arith, place-lt a h), λ some. ap (power 3) at-a ∙ place-at a h some)

@@ -29,6 +29,7 @@ xor-assoc =
     high : (n b c : ℕ) → bitXor (bitXor (n / 2) (b / 2)) (c / 2) ≡ bitXor (n / 2) (bitXor (b / 2) (c / 2))
         → bitXor (bitXor n b / 2) (c / 2) ≡ bitXor (n / 2) (bitXor b c / 2)
     high n b c e = ap (λ (x : ℕ). bitXor x (c / 2)) (xor-shr n b 1) ∙ e ∙ ap (bitXor (n / 2)) (sym (xor-shr b c 1))
+
     low : (n b c : ℕ) → differ (bitXor n b % 2) (c % 2) ≡ differ (n % 2) (bitXor b c % 2)
     low n b c =
         ap (λ (x : ℕ). differ x (c % 2)) (xor-mod n b 1)

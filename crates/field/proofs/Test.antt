@@ -30,9 +30,9 @@ pub at : (n : ℕ) (f : ℕ → Bool) → T (every n f) → (i : ℕ) → i < n 
 unfolding every
 at zero f t i h = absurd (not-suc-le-zero h)
 at (suc n) f t i h =
-    elim (ℕ-discrete i n)
-    [ yes e ↦ subst (λ (m : ℕ). T (f m)) (sym e) (both-left (f n) (every n f) t)
-    | no e ↦ at n f (both-right (f n) (every n f) t) i (omega arith)
+    elim (ℕ-discrete i n) [
+      | yes e ↦ subst (λ (m : ℕ). T (f m)) (sym e) (both-left (f n) (every n f) t)
+      | no e ↦ at n f (both-right (f n) (every n f) t) i (omega arith)
     ]
 
 -- the test f passes at each three numbers below n
