@@ -1,0 +1,13 @@
+pub mod Additive
+pub mod Byte
+pub mod Cases
+pub mod Inverses
+pub mod Laws
+pub mod Lookups
+pub mod Numbers
+pub mod Places
+pub mod Power
+pub mod Product
+pub mod Rows
+pub mod Sum
+pub mod Test

@@ -1,0 +1,32 @@
+-- What is read in a table of powers at a sum of places is a product; at 255 less a place, an inverse.
+use mathlib.Core.Path.{_≡_, sym, ap, ap₂, _∙_}
+use mathlib.Core.List.{List}
+use Prim.Native.Nat.{ℕ, _+_, _-_, _<_, _≤_}
+use native.Mathlib.Omega.{arith}
+use lib.ListN.{getD}
+use Rattle.field.specs.Byte.{times, power, inverse}
+use Rattle.field.proofs.Product.{none-times, times-none}
+use Rattle.field.proofs.Power.{power-add}
+use Rattle.field.proofs.Inverses.{inverse-power}
+
+abbrev pub Powers : List ℕ → Type 0
+Powers t = (k : ℕ) → k < 510 → getD t k 0 ≡ power 3 k
+
+-- a product with 00
+pub none-left : (a b : ℕ) → a ≡ 0 → 0 ≡ times a b
+none-left a b e = sym (ap (λ (x : ℕ). times x b) e ∙ none-times b)
+
+pub none-right : (a b : ℕ) → b ≡ 0 → 0 ≡ times a b
+none-right a b e = sym (ap (times a) e ∙ times-none a)
+
+module _ (t : List ℕ) (rule : Powers t) where
+  pub look-times : (a b j k : ℕ) → j + k < 510 → power 3 j ≡ a → power 3 k ≡ b → getD t (j + k) 0 ≡ times a b
+  look-times a b j k h ea eb = rule (j + k) h ∙ power-add 3 j k (omega arith) ∙ ap₂ times ea eb
+
+  pub look-inverse : (a k : ℕ) → k < 255 → power 3 k ≡ a → getD t (255 - k) 0 ≡ inverse a
+  look-inverse a k h e = rule (255 - k) (omega arith) ∙ sym (inverse-power a k (omega arith) e)
+
+  pub look-quotient : (a b j k : ℕ) → j < 255 → k < 255 → power 3 j ≡ a → power 3 k ≡ b
+      → getD t (j + (255 - k)) 0 ≡ times a (inverse b)
+  look-quotient a b j k hj hk ea eb =
+      look-times a (inverse b) j (255 - k) (omega arith) ea (sym (inverse-power b k (omega arith) eb))

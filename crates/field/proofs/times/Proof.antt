@@ -1,0 +1,46 @@
+-- `field::times` meets its contract: what stands at the sum of two places is the product.
+use native.Mathlib.Omega.{arith}
+use Rattle.field.proofs.Lookups.{none-left, none-right, look-times}
+use borrow.Author.Needs.{needs}
+use Rattle.field.proofs.times.Statement.{statement}
+use Rattle.field.proofs.times.Tie as tie
+
+returns : tie.Need-returns
+returns c = none-left _ _ (c .if1 .taken)
+
+returns-2 : tie.Need-returns-2
+returns-2 c = none-right _ _ (c .if2 .taken)
+
+powers-requires : tie.Need-powers-requires
+powers-requires c κs = search needs
+
+place-requires : tie.Need-place-requires
+place-requires c κs = search needs
+
+place-requires-2 : tie.Need-place-requires-2
+place-requires-2 c κs = search needs
+
+add-result : tie.Need-add-result
+add-result c = search needs
+
+array-read-result : tie.Need-array-read-result
+array-read-result c = search needs
+
+returns-3 : tie.Need-returns-3
+returns-3 c =
+    look-times (c .before .before .powers .result) (c .before .before .powers .ensures) _ _ _ _ (omega arith)
+    (c .before .place .ensures .1 (c .before .before .before .before .if1 .left))
+    (c .place2 .ensures .1 (c .before .before .before .if2 .left))
+
+pub times-spec : {M : Type 1} → statement M
+times-spec =
+    tie.close
+    (tie.spec
+    returns
+    returns-2
+    powers-requires
+    place-requires
+    place-requires-2
+    add-result
+    array-read-result
+    returns-3)
