@@ -185,12 +185,12 @@ module _ {A : Type 0} (K : Carrier A) (L : Laws K) where
       mixed-again g ps b e d =
           given-agree ps d b (given-mixed (weight K inverse ps) (length ps) ps (all-of _ ps (given-weight ps)))
           (all-of _ ps (λ p i. all-at _ ps e p i
-            ∙ sym (mixed-at (weight K inverse ps) p ps (weight-own ps p) (λ q ne. weight-other ps q p i ne) d i)))
+          ∙ sym (mixed-at (weight K inverse ps) p ps (weight-own ps p) (λ q ne. weight-other ps q p i ne) d i)))
 
       -- Lagrange's form of the polynomial through the points
       pub lagrange : (ps : List A) → Distinct ps → (t : A)
           → value K (interpolate K inverse ps (map f ps)) t
-            ≡ combined (itself K) (map (λ p. weight K inverse ps p t) ps) (map f ps)
+          ≡ combined (itself K) (map (λ p. weight K inverse ps p t) ps) (map f ps)
       lagrange ps d =
           mixed-again (value K (through K inverse f ps)) ps
           (record { coefficients = through K inverse f ps; short = le-of-eq (through-length K L inverse inv f ps); values = λ x. refl })

@@ -8,7 +8,7 @@ use Rattle.column.specs.Triple.{Triple, zero-triple, one-triple, sum, mu
 use Rattle.column.proofs.Triple.{triple-path, first, second, third, coefficients, times-assoc, times-comm, times-plus, times-one, triple-space-laws}
 
 -- x^3 + x + 1 has no root
-pub Rootless : {A : Type 0} → Carrier A → Type 0
+abbrev pub Rootless : {A : Type 0} → Carrier A → Type 0
 Rootless {A} K = (t : A) → K .plus (K .plus (K .times t (K .times t t)) t) (K .unit) ≢ K .none
 
 all-same : (x y z : Bool) → x && (y && z) ≡ true → (x ≡ true) × (y ≡ true) × (z ≡ true)
@@ -18,9 +18,9 @@ all-same false y z e = absurd (false≢true e)
 
 module _ {A : Type 0} (K : Carrier A) (L : Laws K) where
   open Carrier K using (none, unit, plus as _⊕_, times as _⊗_)
+
   infixl 60 _⊕_
   infixl 70 _⊗_
-
   abbrev form : A → A → A
   form p q = p ⊗ (p ⊗ p) ⊕ p ⊗ (q ⊗ q) ⊕ q ⊗ (q ⊗ q)
 
@@ -35,7 +35,7 @@ module _ {A : Type 0} (K : Carrier A) (L : Laws K) where
   -- and what has no x^2 has a multiple with neither x nor x^2
   norm : (p q : A)
       → let d = p ⊗ p ⊕ q ⊗ q in let e = p ⊗ q in let f = q ⊗ q in
-        (first K p q none d e f ≡ form p q) × (second K p q none d e f ≡ none) × (third K p q none d e f ≡ none)
+      (first K p q none d e f ≡ form p q) × (second K p q none d e f ≡ none) × (third K p q none d e f ≡ none)
   norm p q = (simp (coefficients, L), simp (coefficients, L), simp (coefficients, L))
 
   form-lowered : (a b c : A) → form b c ≡ b ⊗ (b ⊗ b ⊕ a ⊗ c ⊕ c ⊗ c) ⊕ c ⊗ (a ⊗ b ⊕ c ⊗ c)
@@ -69,6 +69,7 @@ module _ {A : Type 0} (K : Carrier A) (L : Laws K) where
     where
       byte : product K v (alone n) ≡ multiple K n v
       byte = let e = by-byte (v .a) (v .b) (v .c) n in triple-path _ _ (e .0) (e .1) (e .2)
+
       scaled : multiple K n v ≡ zero-triple K
       scaled =
           sym byte ∙ ap (product K v) (sym e) ∙ sym (times-assoc K L v u w)
@@ -76,20 +77,23 @@ module _ {A : Type 0} (K : Carrier A) (L : Laws K) where
 
   module _ (inverse : A → A) (inv : Inverts K inverse) (rootless : Rootless K) where
     form-none : (p q : A) → form p q ≡ none → (p ≡ none) × (q ≡ none)
-    unfolding Rootless
     form-none p q e = ⊎-elim (λ z. (low z, z)) (λ ne. absurd (⊎-elim (rootless t) (λ z. ne (cube-none q z)) (split ne))) (decided K L q none)
       where
         t : A
         t = p ⊗ inverse q
+
         shape : p ⊗ (p ⊗ p) ≡ p ⊗ (p ⊗ p) ⊕ p ⊗ (none ⊗ none) ⊕ none ⊗ (none ⊗ none)
         shape = simp (ring, L)
+
         low : q ≡ none → p ≡ none
         low z = cube-none p (shape ∙ ap (form p) (sym z) ∙ e)
+
         back : q ≢ none → t ⊗ q ≡ p
         back ne = regroup ∙ ap (λ (x : A). p ⊗ x) (inv q ne) ∙ product-unit K L p
           where
             regroup : (p ⊗ inverse q) ⊗ q ≡ p ⊗ (q ⊗ inverse q)
             regroup = simp (ring, L)
+
         split : q ≢ none → (t ⊗ (t ⊗ t) ⊕ t ⊕ unit ≡ none) ⊎ (q ⊗ (q ⊗ q) ≡ none)
         split ne = L .no-zero-divisors _ _ (sym (form-multiple t q) ∙ ap (λ (x : A). form x q) (back ne) ∙ e)
 
@@ -99,21 +103,27 @@ module _ {A : Type 0} (K : Carrier A) (L : Laws K) where
       where
         p : A
         p = u .a ⊗ u .b ⊕ u .c ⊗ u .c
+
         q : A
         q = u .b ⊗ u .b ⊕ u .a ⊗ u .c ⊕ u .c ⊗ u .c
+
         v : Triple A
         v = record { a = u .b; b = u .c; c = none }
+
         w : Triple A
         w = record { a = p ⊗ p ⊕ q ⊗ q; b = p ⊗ q; c = q ⊗ q }
+
         below : product K u v ≡ record { a = p; b = q; c = none }
         below = let e = lowered (u .a) (u .b) (u .c) in triple-path _ _ (e .0) (e .1) (e .2)
+
         ends : product K (record { a = p; b = q; c = none }) w ≡ alone (form p q)
         ends = let e = norm p q in triple-path _ _ (e .0) (e .1) (e .2)
+
         nonzero : form p q ≢ none
         nonzero z =
             let pq = form-none p q z in
             ne (form-none (u .b) (u .c)
-              (form-lowered (u .a) (u .b) (u .c) ∙ ap₂ (λ (x y : A). u .b ⊗ x ⊕ u .c ⊗ y) (pq .1) (pq .0) ∙ simp (ring, L)))
+            (form-lowered (u .a) (u .b) (u .c) ∙ ap₂ (λ (x y : A). u .b ⊗ x ⊕ u .c ⊗ y) (pq .1) (pq .0) ∙ simp (ring, L)))
 
     pub no-zero-divisors : (u v : Triple A) → product K u v ≡ zero-triple K → (u ≡ zero-triple K) ⊎ (v ≡ zero-triple K)
     no-zero-divisors u v z = ⊎-elim (λ hb. ⊎-elim (flat hb) (λ hc. inr (steep (λ e. hc (e .1)))) (decided K L (u .c) none))
@@ -121,6 +131,7 @@ module _ {A : Type 0} (K : Carrier A) (L : Laws K) where
       where
         steep : ((u .b ≡ none) × (u .c ≡ none) → ⊥) → v ≡ zero-triple K
         steep ne = let r = norm-of u ne in regular u v (r .0) (r .1) (r .2) (r .3) z
+
         flat : u .b ≡ none → u .c ≡ none → (u ≡ zero-triple K) ⊎ (v ≡ zero-triple K)
         flat hb hc =
             ⊎-elim (λ ha. inl (triple-path _ _ ha hb hc))
@@ -142,6 +153,6 @@ module _ {A : Type 0} (K : Carrier A) (L : Laws K) where
           no-zero-divisors = no-zero-divisors;
           unit-not-none = λ e. L .unit-not-none (ap (λ (u : Triple A). u .a) e);
           same-sound = λ u v e. let h = all-same _ _ _ e in
-            triple-path u v (L .same-sound _ _ (h .0)) (L .same-sound _ _ (h .1)) (L .same-sound _ _ (h .2));
-          same-self = λ u. ap₂ _&&_ (L .same-self (u .a)) (ap₂ _&&_ (L .same-self (u .b)) (L .same-self (u .c)))
+              triple-path u v (L .same-sound _ _ (h .0)) (L .same-sound _ _ (h .1)) (L .same-sound _ _ (h .2));
+          same-self = λ u. ap₂ _&&_ (L .same-self (u .a)) (ap₂ _&&_ (L .same-self (u .b)) (L .same-self (u .c)));
         }

@@ -12,9 +12,9 @@ triple-path u v p q r = λ i. record { a = p i; b = q i; c = r i }
 
 module _ {A : Type 0} (K : Carrier A) where
   open Carrier K using (none, unit, plus as _⊕_, times as _⊗_)
+
   infixl 60 _⊕_
   infixl 70 _⊗_
-
   -- the three coefficients of (a, b, c) (d, e, f)
   abbrev pub first : A → A → A → A → A → A → A
   first a b c d e f = d ⊗ a ⊕ (e ⊗ c ⊕ f ⊗ b)
@@ -29,13 +29,13 @@ pub ruleset coefficients = (first, second, third, ring)
 
 module _ {A : Type 0} (K : Carrier A) (L : Laws K) where
   open Carrier K using (none, unit, plus as _⊕_, times as _⊗_)
+
   infixl 60 _⊕_
   infixl 70 _⊗_
-
   product-assoc : (a b c d e f g h i : A)
       → let p = first K a b c d e f in let q = second K a b c d e f in let r = third K a b c d e f in
-        let s = first K d e f g h i in let t = second K d e f g h i in let u = third K d e f g h i in
-        (first K p q r g h i ≡ first K a b c s t u) × (second K p q r g h i ≡ second K a b c s t u) × (third K p q r g h i ≡ third K a b c s t u)
+      let s = first K d e f g h i in let t = second K d e f g h i in let u = third K d e f g h i in
+      (first K p q r g h i ≡ first K a b c s t u) × (second K p q r g h i ≡ second K a b c s t u) × (third K p q r g h i ≡ third K a b c s t u)
   product-assoc a b c d e f g h i = (simp (coefficients, L), simp (coefficients, L), simp (coefficients, L))
 
   product-comm : (a b c d e f : A)
@@ -44,8 +44,8 @@ module _ {A : Type 0} (K : Carrier A) (L : Laws K) where
 
   product-plus : (a b c d e f g h i : A)
       → (first K a b c (d ⊕ g) (e ⊕ h) (f ⊕ i) ≡ first K a b c d e f ⊕ first K a b c g h i)
-        × (second K a b c (d ⊕ g) (e ⊕ h) (f ⊕ i) ≡ second K a b c d e f ⊕ second K a b c g h i)
-        × (third K a b c (d ⊕ g) (e ⊕ h) (f ⊕ i) ≡ third K a b c d e f ⊕ third K a b c g h i)
+      × (second K a b c (d ⊕ g) (e ⊕ h) (f ⊕ i) ≡ second K a b c d e f ⊕ second K a b c g h i)
+      × (third K a b c (d ⊕ g) (e ⊕ h) (f ⊕ i) ≡ third K a b c d e f ⊕ third K a b c g h i)
   product-plus a b c d e f g h i = (simp (coefficients, L), simp (coefficients, L), simp (coefficients, L))
 
   product-one : (a b c : A)
@@ -78,5 +78,5 @@ module _ {A : Type 0} (K : Carrier A) (L : Laws K) where
         scaled-unit = λ v. triple-path _ _ (unit-product K L _) (unit-product K L _) (unit-product K L _);
         scaled-plus = λ k u v. triple-path _ _ (product-sum K L k _ _) (product-sum K L k _ _) (product-sum K L k _ _);
         plus-scaled = λ j k v. triple-path _ _ (sum-product K L j k _) (sum-product K L j k _) (sum-product K L j k _);
-        scaled-scaled = λ j k v. triple-path _ _ (sym (L .times-assoc j k _)) (sym (L .times-assoc j k _)) (sym (L .times-assoc j k _))
+        scaled-scaled = λ j k v. triple-path _ _ (sym (L .times-assoc j k _)) (sym (L .times-assoc j k _)) (sym (L .times-assoc j k _));
       }

@@ -11,9 +11,9 @@ pub record Triple (A : Type 0) : Type 0 where
 
 module _ {A : Type 0} (K : Carrier A) where
   open Carrier K using (none, unit, plus as _⊕_, times as _⊗_)
+
   infixl 60 _⊕_
   infixl 70 _⊗_
-
   abbrev pub zero-triple : Triple A
   zero-triple = record { a = none; b = none; c = none }
 
@@ -42,7 +42,7 @@ module _ {A : Type 0} (K : Carrier A) where
         unit = one-triple;
         plus = sum;
         times = product;
-        same = λ u v. K .same (u .a) (v .a) && (K .same (u .b) (v .b) && K .same (u .c) (v .c))
+        same = λ u v. K .same (u .a) (v .a) && (K .same (u .b) (v .b) && K .same (u .c) (v .c));
       }
 
   -- and a space over it

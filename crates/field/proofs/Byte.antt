@@ -1,14 +1,15 @@
 -- Bytes as a type of their own, the numbers below 256: a carrier that keeps the laws, and whose numbers add and multiply as the definitions say.
 use mathlib.Core.Path.{_≡_, refl, ap, _∙_}
 use mathlib.Core.Logic.{_≢_, _⊎_, inl, inr}
-use mathlib.Core.HLevel.{Σ-prop-path, Σ-prop-discrete}
+use mathlib.Core.HLevel.{Σ-prop-path}
 use Prim.Native.Nat.{ℕ, _%_, _<_}
 use native.Mathlib.Nat.{mod-lt, mod-eq-of-lt}
 use native.Mathlib.Bridge.{le-prop}
-use native.Mathlib.Decide.{ℕ-discrete}
 use native.Mathlib.Omega.{arith}
-use lib.Dec.{lit<}
+use lib.Dec.{lit<, eqb}
+use borrow.Author.Tests.{eqb-true, eq-eqb}
 use Rattle.algebra.specs.Carrier.{Carrier, Laws}
+use Rattle.algebra.proofs.Carried.{Carries}
 use Rattle.field.specs.Byte as plain
 use Rattle.field.proofs.Sum.{plus-assoc, plus-comm, plus-none, plus-self, plus-lt}
 use Rattle.field.proofs.Product as product
@@ -42,6 +43,7 @@ field =
       unit = (1, lit< tt);
       plus = λ a b. (plain.plus (a .0) (b .0), plus-lt (a .0) (b .0) (a .1) (b .1));
       times = λ a b. (plain.times (a .0) (b .0), product.times-lt (a .0) (b .0) (a .1));
+      same = λ a b. eqb (a .0) (b .0);
     }
 
 abbrev pub inverse : Byte → Byte
@@ -71,21 +73,13 @@ laws =
       times-plus = λ a b c. same (product.times-plus (a .0) (b .0) (c .0));
       no-zero-divisors = no-zero-divisors;
       unit-not-none = λ e. let z : _≡_ {A = ℕ} 1 0 = ap number e in omega arith;
-      decided = Σ-prop-discrete (λ n. le-prop) ℕ-discrete;
+      same-sound = λ a b e. same (eqb-true (a .0) (b .0) e);
+      same-self = λ a. eq-eqb (a .0) (a .0) refl;
     }
 
--- the numbers of the constants, of a sum, a product and an inverse are those of the definitions
-pub number-none : number (field .none) ≡ plain.bytes .none
-number-none = refl
-
-pub number-unit : number (field .unit) ≡ plain.bytes .unit
-number-unit = refl
-
-pub number-plus : (a b : Byte) → number (field .plus a b) ≡ plain.bytes .plus (number a) (number b)
-number-plus a b = refl
-
-pub number-times : (a b : Byte) → number (field .times a b) ≡ plain.bytes .times (number a) (number b)
-number-times a b = refl
+-- the numbers of sums and products are those of the definitions
+pub number-carries : Carries field plain.bytes number
+number-carries = record { none = refl; unit = refl; plus = λ a b. refl; times = λ a b. refl; same = λ a b. refl }
 
 pub number-inverse : (a : Byte) → number (inverse a) ≡ plain.inverse (number a)
 number-inverse a = refl

@@ -48,4 +48,4 @@ products a = products-below 256 a
 
 -- the numbers with these operations, as a carrier
 abbrev pub bytes : Carrier ℕ
-bytes = record { none = 0; unit = 1; plus = plus; times = times }
+bytes = record { none = 0; unit = 1; plus = plus; times = times; same = eqb }

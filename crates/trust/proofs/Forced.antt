@@ -15,7 +15,6 @@ use Rattle.algebra.proofs.Interpolation.{one-polynomial}
 use Rattle.algebra.proofs.Lagrange.{by-way}
 use Rattle.trust.proofs.Linear.{listed, listed-length, scaling, Scales, value-combined}
 
-
 module _ {A C : Type 0} (K : Carrier A) (L : Laws K) (inverse : A → A) (inv : Inverts K inverse)
     (E : Carrier C) (G : Laws E) (scaled : A → C → C) (M : Scales K E scaled) where
   -- what the points qs say of t: the values there, combined by the points' weights at t
@@ -28,7 +27,7 @@ module _ {A C : Type 0} (K : Carrier A) (L : Laws K) (inverse : A → A) (inv : 
   told-by-way ps qs d h t f =
       composed K (scaling E scaled) (M .space) (λ p. weight K inverse ps p t) (λ p q. weight K inverse qs q p) f ps qs
       ∙ ap (λ (cs : List A). combined (scaling E scaled) cs (map f qs))
-        (sym (map-same _ _ qs (all-of _ qs (λ q i. by-way K L inverse inv ps qs d h q i t))))
+      (sym (map-same _ _ qs (all-of _ qs (λ q i. by-way K L inverse inv ps qs d h q i t))))
 
   -- values that qs say of ps and of r are said of r by ps
   pub told-further : (ps qs : List A) → Distinct ps → length qs ≡ length ps → (f φ : A → C)
@@ -54,6 +53,6 @@ module _ {A C : Type 0} (K : Carrier A) (L : Laws K) (inverse : A → A) (inv : 
     one-block n f rs among ys dy k matched r ir =
         one-body n f ys dy k r
         (all-of _ ys (λ y iy. let m = all-at _ ys matched y iy in
-          told-further ps qs dp h (λ p. value E (listed n (f p)) y) (m .0)
-          (all-of _ ps (λ p ip. all-at _ rs (m .1) p (all-at _ ps among p ip))) r (all-at _ rs (m .1) r ir)))
+        told-further ps qs dp h (λ p. value E (listed n (f p)) y) (m .0)
+        (all-of _ ps (λ p ip. all-at _ rs (m .1) p (all-at _ ps among p ip))) r (all-at _ rs (m .1) r ir)))
         ∙ ap (listed n) (fun-ext (λ s. sym (told-by-way qs ps dq (sym h) r (λ p. f p s))))

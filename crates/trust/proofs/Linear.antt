@@ -41,10 +41,10 @@ module _ {A C P : Type 0} (K : Carrier A) (E : Carrier C) (G : Laws E) (scaled :
 
   pub value-combined : (n : ℕ) (w : P → A) (f : P → ℕ → C) (ps : List P) (y : C)
       → value E (listed n (λ s. total (scaling E scaled) w (λ p. f p s) ps)) y
-        ≡ total (scaling E scaled) w (λ p. value E (listed n (f p)) y) ps
+      ≡ total (scaling E scaled) w (λ p. value E (listed n (f p)) y) ps
   unfolding listed value
   value-combined zero w f ps y = zeros w ps
   value-combined (suc n) w f ps y =
       ap (λ (x : C). E .plus (total (scaling E scaled) w (λ p. f p zero) ps) x)
-        (ap (E .times y) (value-combined n w (λ p s. f p (suc s)) ps y) ∙ multiplied y w (λ p. value E (listed n (λ s. f p (suc s))) y) ps)
+      (ap (E .times y) (value-combined n w (λ p s. f p (suc s)) ps y) ∙ multiplied y w (λ p. value E (listed n (λ s. f p (suc s))) y) ps)
       ∙ sym (total-sum K (scaling E scaled) (M .space) w (λ p. f p zero) (λ p. E .times y (value E (listed n (λ s. f p (suc s))) y)) ps)
