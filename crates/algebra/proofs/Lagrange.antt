@@ -8,9 +8,9 @@ use native.Mathlib.Nat.{le-of-eq, le-trans, le-refl, le-step}
 use lib.ListN.{length, length-map}
 use Rattle.algebra.specs.Carrier.{Carrier, Laws, Inverts}
 use Rattle.algebra.specs.Several.{All, In, Distinct}
-use Rattle.algebra.specs.Polynomial.{value, raised, interpolate, factor, weight}
+use Rattle.algebra.specs.Polynomial.{value, raised, interpolate, only, coefficient, factor, weight}
 use Rattle.algebra.specs.Combination.{combined, itself}
-use Rattle.algebra.proofs.Ring.{ring, same-of-sum, not-same, same-not, none-product, product-none, product-comm, unit-product, none-sum}
+use Rattle.algebra.proofs.Ring.{ring, same-of-sum, not-same, same-not, decided, none-product, product-none, product-comm, unit-product, none-sum}
 use Rattle.algebra.proofs.Several.{all-at, all-of, all-both}
 use Rattle.algebra.proofs.Combination.{total}
 use Rattle.algebra.proofs.Interpolation.{added, added-value, added-short, raised-value, raised-length, agree, through, through-length, through-points}
@@ -167,6 +167,14 @@ module _ {A : Type 0} (K : Carrier A) (L : Laws K) where
           ap₂ (λ (x y : A). x ⊗ f p ⊕ y) (h .0) (mixed-none W t ps (h .1)) ∙ ap (λ (x : A). x ⊕ none) (none-product K L (f p))
           ∙ L .plus-none none
 
+      -- and where every value is 0
+      mixed-zero : (W : A → A → A) (t : A) (ps : List A) → All (λ p. f p ≡ none) ps → mixed W t ps ≡ none
+      unfolding combined
+      mixed-zero W t [] h = refl
+      mixed-zero W t (p ∷ ps) h =
+          ap₂ (λ (x y : A). W p t ⊗ x ⊕ y) (h .0) (mixed-zero W t ps (h .1)) ∙ ap (λ (x : A). x ⊕ none) (product-none K L (W p t))
+          ∙ L .plus-none none
+
       -- where W is 1 at its own point and 0 at every other, the combination has the value at each point
       mixed-at : (W : A → A → A) (t : A) (ps : List A) → W t t ≡ unit → ((p : A) → p ≢ t → W p t ≡ none)
           → Distinct ps → In t ps → mixed W t ps ≡ f t
@@ -202,3 +210,33 @@ module _ {A : Type 0} (K : Carrier A) (L : Laws K) where
     by-way ps qs d h q i =
         mixed-again (weight K inverse qs q) (weight K inverse qs q) ps
         (subst (λ (n : ℕ). Given K n (weight K inverse qs q)) h (given-weight qs q i)) (all-of _ ps (λ p j. refl)) d
+
+    only-own : (q : A) → only K q q ≡ unit
+    unfolding only
+    only-own q = rw (L .same-self q, only)
+
+    only-other : (q p : A) → q ≢ p → only K q p ≡ none
+    unfolding only
+    only-other q p ne = rw (same-not K L q p ne, only)
+
+    -- at the points themselves a weight is 1 at its own and 0 at the others
+    weight-only : (ps : List A) (q p : A) → In p ps → weight K inverse ps q p ≡ only K q p
+    weight-only ps q p i =
+        ⊎-elim
+        (λ e. ap (λ (x : A). weight K inverse ps q x) (sym e) ∙ weight-own ps q ∙ sym (only-own q) ∙ ap (only K q) e)
+        (λ ne. weight-other ps q p i ne ∙ sym (only-other q p ne)) (decided K L q p)
+
+    -- the coefficients in closed form
+    pub coefficient-weight : (ps : List A) → Distinct ps → (q : A) → In q ps → (t : A)
+        → coefficient K inverse ps q t ≡ weight K inverse ps q t
+    unfolding coefficient
+    coefficient-weight ps d q i t =
+        lagrange (only K q) ps d t
+        ∙ sym (mixed-again (only K q) (weight K inverse ps q) ps (given-weight ps q i) (all-of _ ps (weight-only ps q)) d t)
+
+    -- what is none of the points counts nothing
+    pub coefficient-none : (ps : List A) → Distinct ps → (q : A) → All (λ p. q ≢ p) ps → (t : A) → coefficient K inverse ps q t ≡ none
+    unfolding coefficient
+    coefficient-none ps d q apart t =
+        lagrange (only K q) ps d t
+        ∙ mixed-zero (only K q) (weight K inverse ps) t ps (all-of _ ps (λ p i. only-other q p (all-at _ ps apart p i)))

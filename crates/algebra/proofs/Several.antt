@@ -1,8 +1,11 @@
--- Laws of `All`, `In` and `Distinct`.
-use mathlib.Core.Path.{_≡_, refl, sym, ap₂, subst}
+-- Laws of `listed`, `All`, `In` and `Distinct`.
+use mathlib.Core.Path.{_≡_, refl, sym, ap, ap₂, subst}
 use mathlib.Core.Logic.{_≢_, _⊎_, inl, inr}
 use mathlib.Core.List.{List, [], _∷_, map}
-use Rattle.algebra.specs.Several.{All, In, Distinct}
+use Prim.Native.Nat.{ℕ, zero, suc, _<_, suc-le-suc}
+use native.Mathlib.Nat.{le-of-suc-le-suc, not-suc-le-zero, zero-lt-suc, suc-ne-zero, suc-inj}
+use lib.ListN.{length, getD}
+use Rattle.algebra.specs.Several.{listed, All, In, Distinct}
 
 -- what all entries have, each has
 pub all-at : {A : Type 0} (P : A → Type 0) (l : List A) → All P l → (a : A) → In a l → P a
@@ -23,3 +26,48 @@ all-both f (a ∷ l) h k = (f a (h .0) (k .0), all-both f l (h .1) (k .1))
 pub map-same : {A B : Type 0} (f g : A → B) (l : List A) → All (λ a. f a ≡ g a) l → map f l ≡ map g l
 map-same f g [] h = refl
 map-same f g (a ∷ l) h = ap₂ _∷_ (h .0) (map-same f g l (h .1))
+
+pub listed-length : {A : Type 0} (n : ℕ) (f : ℕ → A) → length (listed n f) ≡ n
+unfolding listed
+listed-length zero f = refl
+listed-length (suc n) f = ap suc (listed-length n (λ k. f (suc k)))
+
+pub listed-at : {A : Type 0} (n : ℕ) (f : ℕ → A) (d : A) (k : ℕ) → k < n → getD (listed n f) k d ≡ f k
+unfolding listed
+listed-at zero f d k h = absurd (not-suc-le-zero h)
+listed-at (suc n) f d zero h = refl
+listed-at (suc n) f d (suc k) h = listed-at n (λ j. f (suc j)) d k (le-of-suc-le-suc h)
+
+-- what f has at each number below n, all have
+pub all-listed : {A : Type 0} (P : A → Type 0) (n : ℕ) (f : ℕ → A) → ((k : ℕ) → k < n → P (f k)) → All P (listed n f)
+unfolding listed
+all-listed P zero f h = tt
+all-listed P (suc n) f h = (h zero (zero-lt-suc n), all-listed P n (λ k. f (suc k)) (λ k l. h (suc k) (suc-le-suc l)))
+
+pub map-listed : {A B : Type 0} (g : A → B) (n : ℕ) (f : ℕ → A) → map g (listed n f) ≡ listed n (λ k. g (f k))
+unfolding listed
+map-listed g zero f = refl
+map-listed g (suc n) f = ap (λ (l : List _). g (f zero) ∷ l) (map-listed g n (λ k. f (suc k)))
+
+-- functions that agree below n list the same
+pub listed-same : {A : Type 0} (n : ℕ) (f g : ℕ → A) → ((k : ℕ) → k < n → f k ≡ g k) → listed n f ≡ listed n g
+unfolding listed
+listed-same zero f g h = refl
+listed-same (suc n) f g h =
+    ap₂ _∷_ (h zero (zero-lt-suc n)) (listed-same n (λ k. f (suc k)) (λ k. g (suc k)) (λ k l. h (suc k) (suc-le-suc l)))
+
+-- different values make a list of different entries
+pub listed-distinct : {A : Type 0} (n : ℕ) (f : ℕ → A) → ((i j : ℕ) → i < n → j < n → f i ≡ f j → i ≡ j) → Distinct (listed n f)
+unfolding listed
+listed-distinct zero f h = tt
+listed-distinct (suc n) f h = (
+  all-listed _ n (λ k. f (suc k)) (λ k l e. absurd (suc-ne-zero k (sym (h zero (suc k) (zero-lt-suc n) (suc-le-suc l) e)))),
+  listed-distinct n (λ k. f (suc k)) (λ i j hi hj e. suc-inj (h (suc i) (suc j) (suc-le-suc hi) (suc-le-suc hj) e)),
+)
+
+-- the entries of a list of values are the function's below n
+pub in-listed : {A : Type 0} (n : ℕ) (f : ℕ → A) (k : ℕ) → k < n → In (f k) (listed n f)
+unfolding listed
+in-listed zero f k h = absurd (not-suc-le-zero h)
+in-listed (suc n) f zero h = inl refl
+in-listed (suc n) f (suc k) h = inr (in-listed n (λ j. f (suc j)) k (le-of-suc-le-suc h))

@@ -18,6 +18,10 @@ module _ {A : Type 0} (K : Carrier A) where
   raised y p [] = y ∷ []
   raised y p (g ∷ gs) = (y ⊕ p ⊗ g) ∷ raised g p gs
 
+  -- 1 at q and 0 elsewhere
+  unfoldable pub only : A → A → A
+  only q p = elim (same q p) [ true ↦ unit | false ↦ none ]
+
   module _ (inverse : A → A) where
     -- how steeply the values z at the points q rise from y at p
     unfoldable pub slopes : A → A → List A → List A → List A
@@ -30,6 +34,10 @@ module _ {A : Type 0} (K : Carrier A) where
     interpolate [] ys = []
     interpolate (p ∷ ps) [] = []
     interpolate (p ∷ ps) (y ∷ ys) = raised y p (interpolate ps (slopes p y ps ys))
+
+    -- how much the value at the point q counts at t: what the polynomial that is 1 at q and 0 at the other points is there
+    unfoldable pub coefficient : List A → A → A → A
+    coefficient ps q t = value (interpolate ps (map (only q) ps)) t
 
     -- one factor of Lagrange's product: (t - q) / (p - q), and 1 where q is p itself
     unfoldable pub factor : A → A → A → A

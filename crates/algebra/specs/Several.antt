@@ -1,7 +1,13 @@
--- What is said of the entries of a list: of all of them, of one among them, and that no two are the same.
+-- Lists: made of a function's first values; what is said of all entries, of one among them, and that no two are the same.
 use mathlib.Core.Path.{_≡_}
 use mathlib.Core.Logic.{_≢_, _⊎_}
 use mathlib.Core.List.{List, [], _∷_}
+use Prim.Native.Nat.{ℕ, zero, suc}
+
+-- f 0, f 1, .. up to f (n - 1)
+unfoldable pub listed : {A : Type 0} → ℕ → (ℕ → A) → List A
+listed zero f = []
+listed (suc n) f = f zero ∷ listed n (λ k. f (suc k))
 
 -- every entry has P
 abbrev pub All : {A : Type 0} → (A → Type 0) → List A → Type 0

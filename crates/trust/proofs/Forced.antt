@@ -6,14 +6,14 @@ use Prim.Native.Nat.{ℕ, zero, suc, _<_, _≤_}
 use native.Mathlib.Nat.{le-trans, le-of-eq}
 use lib.ListN.{length}
 use Rattle.algebra.specs.Carrier.{Carrier, Laws, Inverts}
-use Rattle.algebra.specs.Several.{All, In, Distinct}
+use Rattle.algebra.specs.Several.{listed, All, In, Distinct}
 use Rattle.algebra.specs.Combination.{combined, itself}
 use Rattle.algebra.specs.Polynomial.{value, weight}
-use Rattle.algebra.proofs.Several.{all-at, all-of, map-same}
+use Rattle.algebra.proofs.Several.{all-at, all-of, map-same, listed-length}
 use Rattle.algebra.proofs.Combination.{total, composed}
 use Rattle.algebra.proofs.Interpolation.{one-polynomial}
 use Rattle.algebra.proofs.Lagrange.{by-way}
-use Rattle.trust.proofs.Linear.{listed, listed-length, scaling, Scales, value-combined}
+use Rattle.trust.proofs.Linear.{scaling, Scales, value-combined}
 
 module _ {A C : Type 0} (K : Carrier A) (L : Laws K) (inverse : A → A) (inv : Inverts K inverse)
     (E : Carrier C) (G : Laws E) (scaled : A → C → C) (M : Scales K E scaled) where

@@ -2,22 +2,12 @@
 use mathlib.Core.Path.{_≡_, refl, sym, ap, ap₂, _∙_}
 use mathlib.Core.List.{List, [], _∷_, map}
 use Prim.Native.Nat.{ℕ, zero, suc}
-use lib.ListN.{length}
 use Rattle.algebra.specs.Carrier.{Carrier, Laws}
+use Rattle.algebra.specs.Several.{listed}
 use Rattle.algebra.specs.Combination.{Space, SpaceLaws, combined}
 use Rattle.algebra.specs.Polynomial.{value}
 use Rattle.algebra.proofs.Ring.{product-none, product-sum}
 use Rattle.algebra.proofs.Combination.{total, total-sum}
-
--- the n first values of f, in order
-unfoldable pub listed : {C : Type 0} → ℕ → (ℕ → C) → List C
-listed zero f = []
-listed (suc n) f = f zero ∷ listed n (λ s. f (suc s))
-
-pub listed-length : {C : Type 0} (n : ℕ) (f : ℕ → C) → length (listed n f) ≡ n
-unfolding listed
-listed-length zero f = refl
-listed-length (suc n) f = ap suc (listed-length n (λ s. f (suc s)))
 
 -- a carrier C that is scaled by the carrier A, where scaling passes through products
 abbrev pub scaling : {A C : Type 0} → Carrier C → (A → C → C) → Space A C
