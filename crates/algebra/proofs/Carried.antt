@@ -3,7 +3,7 @@ use mathlib.Core.Path.{_≡_, refl, sym, ap, ap₂, _∙_}
 use mathlib.Core.Bool.{Bool, true, false}
 use mathlib.Core.List.{List, [], _∷_, map}
 use Rattle.algebra.specs.Carrier.{Carrier}
-use Rattle.algebra.specs.Polynomial.{value, raised, slopes, interpolate, factor, weight}
+use Rattle.algebra.specs.Polynomial.{value, raised, slopes, interpolate, only, factor, weight}
 use Rattle.algebra.specs.Combination.{Space, combined}
 use Rattle.algebra.proofs.Lagrange.{factor-same, factor-other}
 
@@ -40,6 +40,14 @@ module _ {A B : Type 0} (K : Carrier A) (J : Carrier B) (h : A → B) (H : Carri
   raised-carried y p [] = refl
   raised-carried y p (g ∷ gs) =
       ap₂ _∷_ (H .plus y (K .times p g) ∙ ap (λ (z : B). J .plus (h y) z) (H .times p g)) (raised-carried g p gs)
+
+  pub only-carried : (q p : A) → h (only K q p) ≡ only J (h q) (h p)
+  unfolding only
+  only-carried q p = go (K .same q p) refl
+    where
+      go : (s : Bool) → K .same q p ≡ s → h (only K q p) ≡ only J (h q) (h p)
+      go true e = ap h (rw (e, only)) ∙ H .unit ∙ sym (rw (H .same q p ∙ e, only))
+      go false e = ap h (rw (e, only)) ∙ H .none ∙ sym (rw (H .same q p ∙ e, only))
 
   module _ (i : A → A) (j : B → B) (I : (a : A) → h (i a) ≡ j (h a)) where
     quotient-carried : (a b : A) → h (K .times a (i b)) ≡ J .times (h a) (j (h b))
