@@ -19,7 +19,7 @@ use Rattle.field.proofs.Byte.{Byte, field, laws, number, byte, number-byte, byt
 abbrev pub Small : ℕ → Type 0
 Small n = n < 256
 
-map-map : {A B C : Type 0} (g : B → C) (f : A → B) (l : List A) → map g (map f l) ≡ map (λ a. g (f a)) l
+pub map-map : {A B C : Type 0} (g : B → C) (f : A → B) (l : List A) → map g (map f l) ≡ map (λ a. g (f a)) l
 map-map g f [] = refl
 map-map g f (a ∷ l) = ap (λ (r : List _). g (f a) ∷ r) (map-map g f l)
 

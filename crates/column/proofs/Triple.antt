@@ -66,6 +66,15 @@ module _ {A : Type 0} (K : Carrier A) (L : Laws K) where
   pub times-one : (u : Triple A) → product K u (one-triple K) ≡ u
   times-one u = let e = product-one (u .a) (u .b) (u .c) in triple-path _ _ (e .0) (e .1) (e .2)
 
+  product-multiple : (a b c d e f k : A)
+      → (first K a b c (k ⊗ d) (k ⊗ e) (k ⊗ f) ≡ k ⊗ first K a b c d e f) × (second K a b c (k ⊗ d) (k ⊗ e) (k ⊗ f) ≡ k ⊗ second K a b c d e f)
+      × (third K a b c (k ⊗ d) (k ⊗ e) (k ⊗ f) ≡ k ⊗ third K a b c d e f)
+  product-multiple a b c d e f k = (simp (coefficients, L), simp (coefficients, L), simp (coefficients, L))
+
+  -- a multiple passes through a product
+  pub times-multiple : (k : A) (u v : Triple A) → product K u (multiple K k v) ≡ multiple K k (product K u v)
+  times-multiple k u v = let e = product-multiple (u .a) (u .b) (u .c) (v .a) (v .b) (v .c) k in triple-path _ _ (e .0) (e .1) (e .2)
+
   -- a column is a space over its bytes
   pub triple-space-laws : SpaceLaws K (triple-space K)
   triple-space-laws =

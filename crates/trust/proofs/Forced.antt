@@ -13,7 +13,7 @@ use Rattle.algebra.proofs.Several.{all-at, all-of, map-same, listed-length}
 use Rattle.algebra.proofs.Combination.{total, composed}
 use Rattle.algebra.proofs.Interpolation.{one-polynomial}
 use Rattle.algebra.proofs.Lagrange.{by-way}
-use Rattle.trust.proofs.Linear.{scaling, Scales, value-combined}
+use Rattle.fingerprint.proofs.Linear.{scaling, Scales, value-combined}
 
 module _ {A C : Type 0} (K : Carrier A) (L : Laws K) (inverse : A → A) (inv : Inverts K inverse)
     (E : Carrier C) (G : Laws E) (scaled : A → C → C) (M : Scales K E scaled) where

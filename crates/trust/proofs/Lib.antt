@@ -1,2 +1,1 @@
-pub mod Linear
 pub mod Forced

@@ -1,0 +1,3 @@
+pub mod Linear
+pub mod Reading
+pub mod Combined
