@@ -1,11 +1,11 @@
--- Powers of a byte are bytes and add up; and the table of the powers of 03 has power k at entry k.
-use mathlib.Core.Path.{_≡_, sym, ap, _∙_}
+-- Powers of a byte are bytes and add up, the powers of 03 come back to 01 after 255, and their table has power k at entry k.
+use mathlib.Core.Path.{_≡_, refl, sym, ap, _∙_}
 use mathlib.Core.List.{List, [], _∷_}
 use Prim.Native.Nat.{ℕ, zero, suc, _+_, _<_}
 use native.Mathlib.Nat.{add-zero, add-suc, zero-add, suc-add, le-of-suc-le-suc, not-suc-le-zero}
 use native.Mathlib.Omega.{arith}
 use lib.ListN.{getD}
-use Rattle.field.specs.Byte.{times, power}
+use Rattle.field.specs.Byte.{plus, xtime, product, times, power}
 use Rattle.field.proofs.Product.{times-lt}
 use Rattle.field.proofs.Laws.{times-unit, times-assoc}
 
@@ -20,6 +20,10 @@ power-add a j zero h = ap (power a) (add-zero j) ∙ sym (times-unit (power a j)
 power-add a j (suc k) h =
     ap (power a) (add-suc j k) ∙ ap (λ (x : ℕ). times x a) (power-add a j k h)
     ∙ times-assoc (power a j) (power a k) a (power-lt a j) (power-lt a k) h
+
+pub power-back : power 3 255 ≡ 1
+unfolding power times product xtime plus
+power-back = refl
 
 -- n powers of 03, from p on
 unfoldable pub powers : ℕ → ℕ → List ℕ

@@ -1,6 +1,5 @@
 -- `field::quotient` meets its contract: the place of an inverse is 255 less the place.
 use mathlib.Core.Path.{ap, _∙_}
-use native.Mathlib.Omega.{arith}
 use Rattle.field.specs.Byte.{inverse}
 use Rattle.field.proofs.Inverses.{inverse-none}
 use Rattle.field.proofs.Lookups.{none-left, none-right, look-quotient}
