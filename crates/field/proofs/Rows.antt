@@ -9,10 +9,10 @@ use native.Mathlib.Decide.{ℕ-discrete}
 use native.Mathlib.Omega.{arith}
 use lib.ListN.{length, getD, set, replicate, length-append, length-set, List·getD-append}
 use lib.Seq.{getD-at, getD-set-same, getD-set-other, ext-getD}
-use Rattle.field.specs.Byte.{plus, xtime, product, times, power, products-below, products}
+use Rattle.field.specs.Byte.{plus, xtime, product, times, power, Powers, products-below, products}
 use Rattle.field.proofs.Product.{times-none}
 use Rattle.field.proofs.Power.{power-lt}
-use Rattle.field.proofs.Lookups.{Powers, look-times}
+use Rattle.field.proofs.Lookups.{look-times}
 use Rattle.field.proofs.Places.{places, place-lt, place-at}
 
 -- the row's definition: its length, and its entries
@@ -74,6 +74,7 @@ fill a n out f =
 -- one turn of the loop: the place x is read in a table of powers, and so is what is put there
 pub fill-read : (a n at x : ℕ) (out t : List ℕ) → Powers t → at + n < 510 → power 3 at ≡ a → x ≡ getD t n 0 → Filled a n out
     → Filled a (n + 1) (set out x (getD t (at + n) 0))
+unfolding Powers
 fill-read a n at x out t rule h e ex f =
     subst₂ (λ (y v : ℕ). Filled a (n + 1) (set out y v))
     (sym (ex ∙ rule n (omega arith))) (sym (look-times t rule a (power 3 n) at n h e refl)) (fill a n out f)

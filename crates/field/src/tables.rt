@@ -1,8 +1,7 @@
 // The table of the powers of 03, and the place of each byte in it. Each table is read by one function, so that its rule is proved once.
 ghost use mathlib.Core.Path.{_≡_};
 ghost use mathlib.Core.Logic.{_≢_};
-ghost use Prim.Native.Nat.{ℕ, _<_};
-ghost use lib.ListN.{getD};
+ghost use Prim.Native.Nat.{_<_};
 ghost use Rattle.field.specs.Byte as byte;
 
 pub(crate) fn wide(x: u8) -> usize
@@ -13,7 +12,7 @@ pub(crate) fn wide(x: u8) -> usize
 
 // The one reader of POWERS: whoever has the array has its rule.
 pub(crate) fn powers() -> [u8; 510]
-    ensures { λ r. ⌜ ((k : ℕ) → k < 510 → getD r k 0 ≡ byte.power 3 k) ⌝ }
+    ensures { λ r. ⌜ byte.Powers r ⌝ }
 {
     POWERS
 }
