@@ -1,4 +1,4 @@
--- Bytes as a field, on the numbers 0 to 255 that stand for them: FIPS 197, sections 4.1, 4.2 and 4.2.1.
+-- Bytes as a field, on the numbers 0 to 255 that stand for them: FIPS 197 (2001), sections 4.1, 4.2 and 4.2.1.
 use mathlib.Core.Path.{_≡_}
 use Prim.Native.Nat.{ℕ, zero, suc, _*_, _/_, _%_, _<_}
 use mathlib.Core.Bool.{true, false}
