@@ -1,5 +1,5 @@
 -- Two maps that carry sums to sums are equal below 2^k if they are equal at the k powers of two there.
-use mathlib.Core.Path.{_≡_, refl, sym, ap, ap₂, _∙_}
+use mathlib.Core.Path.{_≡_, sym, ap, ap₂, _∙_}
 use Prim.Native.Nat.{ℕ, zero, suc, _+_, _*_, _^_, _-_, _<_, _≤_}
 use native.Mathlib.Nat.{pow-suc, one-mul}
 use native.Mathlib.Decide.{decLt}

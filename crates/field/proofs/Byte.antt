@@ -1,5 +1,5 @@
 -- Bytes as a type of their own, the numbers below 256: a carrier that keeps the laws, and whose numbers add and multiply as the definitions say.
-use mathlib.Core.Path.{_≡_, refl, ap, _∙_}
+use mathlib.Core.Path.{_≡_, refl, ap}
 use mathlib.Core.Logic.{_≢_, _⊎_, inl, inr}
 use mathlib.Core.HLevel.{Σ-prop-path}
 use Prim.Native.Nat.{ℕ, _%_, _<_}

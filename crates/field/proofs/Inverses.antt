@@ -2,7 +2,7 @@
 use mathlib.Core.Path.{_≡_, refl, sym, ap, ap₂, _∙_}
 use mathlib.Core.Logic.{_≢_, _⊎_, inl, inr}
 use mathlib.Core.Bool.{Bool, true, false}
-use Prim.Native.Nat.{ℕ, zero, suc, _+_, _-_, _<_, _≤_}
+use Prim.Native.Nat.{ℕ, zero, suc, _-_, _<_, _≤_}
 use native.Mathlib.Nat.{not-suc-le-zero}
 use native.Mathlib.Decide.{ℕ-discrete}
 use native.Mathlib.Omega.{arith}
@@ -10,9 +10,9 @@ use lib.Dec.{eqb}
 use lib.ListN.{getD}
 use borrow.Author.Tests.{eqb-true, eqb-false}
 use Rattle.field.specs.Byte.{plus, xtime, product, times, power, inverse-below, inverse}
-use Rattle.field.proofs.Product.{times-none, times-lt}
+use Rattle.field.proofs.Product.{times-none}
 use Rattle.field.proofs.Laws.{times-unit, times-comm, times-assoc}
-use Rattle.field.proofs.Power.{power-lt, power-add}
+use Rattle.field.proofs.Power.{power-lt, power-add, power-back}
 use Rattle.field.proofs.Places.{places, place-lt, place-at}
 
 -- where a number below n is an inverse of a, the search finds one
@@ -31,10 +31,6 @@ found (suc n) a b h e = go (eqb (times a n) 1) refl (λ below. found n a b below
         let other : b ≢ n = λ same. eqb-false (times a n) 1 q (ap (times a) (sym same) ∙ e) in
         let it = rest (omega arith) in
         (omega (arith, it .0), it .1)
-
-power-back : power 3 255 ≡ 1
-unfolding power times product xtime plus
-power-back = refl
 
 -- two powers whose places add up to 255 are inverses
 pub powers-cancel : (k : ℕ) → k ≤ 255 → times (power 3 k) (power 3 (255 - k)) ≡ 1

@@ -1,8 +1,8 @@
 -- Products of bytes: commutative, associative, and 1 leaves a byte as it is. Each follows from its cases at the powers of two.
-use mathlib.Core.Path.{_≡_, refl, sym, ap, _∙_}
+use mathlib.Core.Path.{_≡_, refl, ap, _∙_}
 use Prim.Native.Nat.{ℕ, _^_, _<_}
 use lib.Dec.{eqb→eq}
-use Rattle.field.specs.Byte.{plus, times}
+use Rattle.field.specs.Byte.{times}
 use Rattle.field.proofs.Test.{every, at, at₃}
 use Rattle.field.proofs.Additive.{Additive, agree}
 use Rattle.field.proofs.Product.{plus-times, times-plus}

@@ -7,9 +7,22 @@ use Prim.Native.Nat.{ℕ, zero, suc, _<_}
 use native.Mathlib.Omega.{arith}
 use lib.Dec.{T, eqb, ltb, eqb→eq, ltb→lt}
 use lib.ListN.{getD}
-use Rattle.field.specs.Byte.{plus, xtime, product, times, power}
+use Rattle.field.specs.Byte.{plus, xtime, product, times, power, Powers}
 use Rattle.field.proofs.Test.{both, every, at}
-use Rattle.field.proofs.Power.{powers, table, table-at}
+use Rattle.field.proofs.Power.{follows, tested}
+
+-- n powers of 03, from p on
+unfoldable pub powers : ℕ → ℕ → List ℕ
+powers zero p = []
+powers (suc n) p = p ∷ powers n (times p 3)
+
+-- the table of powers
+unfoldable pub table : List ℕ
+table = powers 510 1
+
+table-powers : Powers table
+unfolding table powers follows both times product xtime plus
+table-powers = tested table tt
 
 -- the first place of a in a list, counted from k; 0 where it has none
 unfoldable pub seek : ℕ → ℕ → List ℕ → ℕ
@@ -44,11 +57,11 @@ unfolding near
 place-lt a h = ltb→lt (getD places a 0) 255 (at 256 near near-all a h)
 
 pub place-at : (a : ℕ) → a < 256 → a ≢ 0 → power 3 (getD places a 0) ≡ a
-unfolding right
+unfolding right Powers
 place-at zero h n = absurd (n refl)
 place-at (suc a) h n =
     let near : getD places (suc a) 0 < 510 = omega (arith, place-lt (suc a) h) in
-    sym (table-at (getD places (suc a) 0) near)
+    sym (table-powers (getD places (suc a) 0) near)
     ∙ eqb→eq (getD table (getD places (suc a) 0) 0) (suc a) (at 255 right right-all a (omega arith))
 
 -- what is read in the table of places at a

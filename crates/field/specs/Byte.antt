@@ -1,9 +1,11 @@
--- Bytes as a field, on the numbers 0 to 255 that stand for them: FIPS 197, sections 4.1, 4.2 and 4.2.1.
-use Prim.Native.Nat.{ℕ, zero, suc, _*_, _/_, _%_}
+-- Bytes as a field, on the numbers 0 to 255 that stand for them: FIPS 197 (2001), sections 4.1, 4.2 and 4.2.1.
+use mathlib.Core.Path.{_≡_}
+use Prim.Native.Nat.{ℕ, zero, suc, _*_, _/_, _%_, _<_}
 use mathlib.Core.Bool.{true, false}
 use mathlib.Core.List.{List, [], _∷_, _++_}
 use lib.Bits.{bitXor}
 use lib.Dec.{eqb}
+use lib.ListN.{getD}
 use Rattle.algebra.specs.Carrier.{Carrier}
 
 -- 4.1: "The addition is performed with the XOR operation"
@@ -27,6 +29,10 @@ times a b = product 8 a b
 unfoldable pub power : ℕ → ℕ → ℕ
 power a zero = 1
 power a (suc k) = times (power a k) a
+
+-- what document 01 asks of its table of powers: "entry k is 03 to the power k, k from 0 to 509"
+unfoldable pub Powers : List ℕ → Type 0
+Powers t = (k : ℕ) → k < 510 → getD t k 0 ≡ power 3 k
 
 -- the largest b below n with a • b = {01}; {00} where there is none
 unfoldable pub inverse-below : ℕ → ℕ → ℕ

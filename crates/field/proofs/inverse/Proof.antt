@@ -24,7 +24,7 @@ array-read-result c = search needs
 
 returns-2 : tie.Need-returns-2
 returns-2 c =
-    look-inverse (c .before .powers .result) (c .before .powers .ensures) _ _ (c .place .ensures .0)
+    look-inverse _ (c .before .powers .ensures) _ _ (c .place .ensures .0)
     (c .place .ensures .1 (c .before .before .if1 .left))
 
 pub inverse-spec : {M : Type 1} → statement M

@@ -1,6 +1,5 @@
 -- `field::quotient` meets its contract: the place of an inverse is 255 less the place.
 use mathlib.Core.Path.{ap, _∙_}
-use native.Mathlib.Omega.{arith}
 use Rattle.field.specs.Byte.{inverse}
 use Rattle.field.proofs.Inverses.{inverse-none}
 use Rattle.field.proofs.Lookups.{none-left, none-right, look-quotient}
@@ -34,7 +33,7 @@ array-read-result c = search needs
 
 returns-3 : tie.Need-returns-3
 returns-3 c =
-    look-quotient (c .before .before .powers .result) (c .before .before .powers .ensures) _ _ _ _
+    look-quotient _ (c .before .before .powers .ensures) _ _ _ _
     (c .before .place .ensures .0) (c .place2 .ensures .0)
     (c .before .place .ensures .1 (c .before .before .before .before .if1 .left))
     (c .place2 .ensures .1 (c .before .before .before .if2 .left))

@@ -1,7 +1,7 @@
 -- `field::row` meets its contract: the loop puts each product at its place, one power of 03 after the other.
 use Prim.Native.Nat.{_≤_, _-_}
 use native.Mathlib.Omega.{arith}
-use Rattle.field.proofs.Power.{power-lt}
+use Rattle.field.proofs.Lookups.{look-lt}
 use Rattle.field.proofs.Rows.{Filled, start, fill-read, filled, row-none}
 use borrow.Author.Needs.{needs}
 use Rattle.field.proofs.row.Statement.{statement}
@@ -39,12 +39,7 @@ wide-requires c κs = search needs
 
 array-write-out : tie.Need-array-write-out Inv-loop μ-loop
 array-write-out c =
-    omega (
-      arith,
-      c .wide .ensures,
-      c .before .before .before .powers .ensures (c .before .before .loop .k) (search needs),
-      power-lt 3 (c .before .before .loop .k),
-    )
+    omega (arith, c .wide .ensures, look-lt _ (c .before .before .before .powers .ensures) (c .before .before .loop .k) (omega arith))
 
 add-k : tie.Need-add-k Inv-loop μ-loop
 add-k c = search needs
@@ -55,7 +50,7 @@ loop-less c = search needs
 loop-again : tie.Need-loop-again Inv-loop μ-loop
 loop-again c = (
   omega arith,
-  fill-read _ _ _ _ _ (c .before .before .before .powers .result) (c .before .before .before .powers .ensures) (omega arith)
+  fill-read _ _ _ _ _ _ (c .before .before .before .powers .ensures) (omega arith)
       (c .before .before .before .before .place .ensures .1 (c .before .before .before .before .before .if1 .left))
       (c .wide .ensures) (c .before .before .loop .inv .1),
 )

@@ -28,7 +28,7 @@ array-read-result c = search needs
 
 returns-3 : tie.Need-returns-3
 returns-3 c =
-    look-times (c .before .before .powers .result) (c .before .before .powers .ensures) _ _ _ _ (omega arith)
+    look-times _ (c .before .before .powers .ensures) _ _ _ _ (omega arith)
     (c .before .place .ensures .1 (c .before .before .before .before .if1 .left))
     (c .place2 .ensures .1 (c .before .before .before .if2 .left))
 

@@ -1,10 +1,9 @@
--- `field::place` meets its contract: the table is the list of places that antt computes.
+-- `field::tables::place` meets its contract: the table is the list of places that antt computes.
 use Rattle.field.specs.Byte.{plus, xtime, product, times}
-use Rattle.field.proofs.Power.{powers, table}
-use Rattle.field.proofs.Places.{seek, seeks, places, place-read}
+use Rattle.field.proofs.Places.{powers, table, seek, seeks, places, place-read}
 use borrow.Author.Needs.{needs}
-use Rattle.field.proofs.place.Statement.{statement}
-use Rattle.field.proofs.place.Tie as tie
+use Rattle.field.proofs.tables.place.Statement.{statement}
+use Rattle.field.proofs.tables.place.Tie as tie
 
 wide-requires : tie.Need-wide-requires
 wide-requires c κs = search needs
