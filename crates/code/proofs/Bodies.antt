@@ -2,18 +2,22 @@
 use mathlib.Core.Path.{_≡_, refl, sym, ap, ap₂, subst, _∙_}
 use mathlib.Core.List.{List, [], _∷_, map}
 use Prim.Native.Nat.{ℕ, zero, suc, _+_, _*_, _/_, _%_, _<_, _≤_}
-use native.Mathlib.Nat.{lt-of-lt-of-le, not-suc-le-zero, zero-lt-suc, mul-zero, mod-lt, div-add-mod', div-lt-iff-lt-mul}
-use lib.ListN.{length, getD}
+use native.Mathlib.Nat.{le-trans, le-of-eq, lt-of-lt-of-le, not-suc-le-zero, zero-lt-suc, mul-zero, mod-lt, div-add-mod', div-lt-iff-lt-mul}
+use native.Mathlib.Decide.{decLt}
+use native.Mathlib.Omega.{arith}
+use lib.ListN.{length, getD, List·getD-eq-default}
 use lib.Seq.{ext-getD}
 use lib.Dec.{lit<}
 use Rattle.algebra.specs.Several.{listed, All, In, Distinct}
-use Rattle.algebra.specs.Polynomial.{value, interpolate, weight}
+use Rattle.algebra.specs.Polynomial.{value, interpolate, only, coefficient, weight}
 use Rattle.algebra.specs.Combination.{combined, itself}
 use Rattle.algebra.proofs.Several.{all-at, all-of, map-same, listed-length, listed-at, all-listed, listed-distinct, in-listed}
-use Rattle.field.specs.Byte.{bytes, inverse}
+use Rattle.field.specs.Byte.{plus, bytes, inverse}
+use Rattle.field.proofs.Sum.{plus-none}
+use Rattle.field.proofs.Product.{times-none}
 use Rattle.code.specs.Cutting.{points, source, byte-of, body, coefficient-of}
 use Rattle.code.specs.Joining.{regained, joined}
-use Rattle.code.proofs.Plain.{Small, plain-lagrange, plain-points, plain-coefficient, plain-small, plain-recovered}
+use Rattle.code.proofs.Plain.{Small, plain-lagrange, plain-points, plain-coefficient, plain-small, plain-recovered, only-small}
 
 pub points-length : (m : ℕ) → length (points m) ≡ m
 unfolding points
@@ -31,6 +35,10 @@ pub in-points : (m j : ℕ) → j < m → In j (points m)
 unfolding points
 in-points m j h = in-listed m (λ k. k) j h
 
+pub points-below : (m : ℕ) → All (λ j. j < m) (points m)
+unfolding points
+points-below m = all-listed (λ j. j < m) m (λ j. j) (λ k h. h)
+
 -- whatever is read of a list of bytes is a byte
 pub getD-small : (l : List ℕ) → All Small l → (k : ℕ) → Small (getD l k 0)
 getD-small [] h k = lit< tt
@@ -40,6 +48,11 @@ getD-small (a ∷ l) h (suc k) = getD-small l (h .1) k
 source-small : (F : ℕ) (block : List ℕ) → All Small block → (p j : ℕ) → Small (source F block p j)
 unfolding source
 source-small F block h p j = getD-small block h (j * F + p)
+
+zeros : (w : ℕ → ℕ) (ps : List ℕ) → combined (itself bytes) (map w ps) (map (λ p. 0) ps) ≡ 0
+unfolding combined
+zeros w [] = refl
+zeros w (p ∷ ps) = ap₂ plus (times-none (w p)) (zeros w ps) ∙ plus-none 0
 
 -- byte k of m bodies of F bytes each lies in body k / F at position k % F
 some : (m F k : ℕ) → k < m * F → 0 < F
@@ -74,6 +87,39 @@ module _ (m F : ℕ) (hm : m ≤ 256) (block : List ℕ) (hb : All Small block) 
       ∙ ap (λ (cs : List ℕ). combined (itself bytes) cs (map (source F block p) (points m)))
       (sym (map-same _ _ (points m) (all-of _ (points m) (λ j k. plain-coefficient (points m) (points-small m hm) (points-distinct m) j k i h))))
 
+  pub body-length-is : (i : ℕ) → length (body m F block i) ≡ F
+  unfolding body
+  body-length-is i = listed-length F (byte-of m F block i)
+
+  pub body-small : (i : ℕ) → Small i → All Small (body m F block i)
+  unfolding body
+  body-small i h = all-listed Small F (byte-of m F block i) (λ k l. byte-small i h k)
+
+  body-at : (i k : ℕ) → k < F → getD (body m F block i) k 0 ≡ byte-of m F block i k
+  unfolding body
+  body-at i k h = listed-at F (byte-of m F block i) 0 k h
+
+  body-past : (i k : ℕ) → F ≤ k → getD (body m F block i) k 0 ≡ 0
+  body-past i k h = List·getD-eq-default (body m F block i) 0 (le-trans (le-of-eq (body-length-is i)) h)
+
+  -- so it is, byte by byte and past the end too, of the bodies themselves
+  pub body-combined : (i : ℕ) → Small i → (k : ℕ)
+      → getD (body m F block i) k 0 ≡ combined (itself bytes) (map (coefficient-of m i) (points m)) (map (λ j. getD (body m F block j) k 0) (points m))
+  body-combined i h k = elim (decLt k F) [ yes l ↦ within l | no g ↦ beyond (omega arith) ]
+    where
+      within : k < F → getD (body m F block i) k 0
+          ≡ combined (itself bytes) (map (coefficient-of m i) (points m)) (map (λ j. getD (body m F block j) k 0) (points m))
+      within l =
+          body-at i k l ∙ byte-combined i h k
+          ∙ ap (combined (itself bytes) (map (coefficient-of m i) (points m)))
+            (map-same _ _ (points m) (all-of _ (points m) (λ j q. sym (body-at j k l ∙ byte-own j (all-at _ (points m) (points-below m) j q) k))))
+      beyond : F ≤ k → getD (body m F block i) k 0
+          ≡ combined (itself bytes) (map (coefficient-of m i) (points m)) (map (λ j. getD (body m F block j) k 0) (points m))
+      beyond g =
+          body-past i k g
+          ∙ sym (zeros (coefficient-of m i) (points m))
+          ∙ ap (combined (itself bytes) (map (coefficient-of m i) (points m))) (map-same _ _ (points m) (all-of _ (points m) (λ j q. sym (body-past j k g))))
+
   -- any m bodies with different indexes give every other body to the byte
   pub any-body : (is : List ℕ) → All Small is → Distinct is → length is ≡ m → (t : ℕ) → Small t → (p : ℕ) → p < F
       → regained is (body m F block) t p ≡ byte-of m F block t p
@@ -99,3 +145,9 @@ module _ (m F : ℕ) (hm : m ≤ 256) (block : List ℕ) (hb : All Small block) 
 pub coefficient-closed : (m : ℕ) → m ≤ 256 → (i : ℕ) → Small i → (j : ℕ) → j < m → coefficient-of m i j ≡ weight bytes inverse (points m) j i
 unfolding coefficient-of
 coefficient-closed m hm i hi j hj = plain-coefficient (points m) (points-small m hm) (points-distinct m) j (in-points m j hj) i hi
+
+pub coefficient-small : (m : ℕ) → m ≤ 256 → (i : ℕ) → Small i → (j : ℕ) → Small j → Small (coefficient-of m i j)
+unfolding coefficient-of coefficient
+coefficient-small m hm i hi j hj =
+    plain-small (points m) (points-small m hm) (only bytes j)
+    (all-of _ (points m) (λ p q. only-small j p hj (all-at _ (points m) (points-small m hm) p q))) i hi

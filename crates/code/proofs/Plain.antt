@@ -29,7 +29,7 @@ there-and-back [] h = refl
 there-and-back (n ∷ l) h = ap₂ _∷_ (number-byte n (h .0)) (there-and-back l (h .1))
 
 -- different numbers are different bytes
-different : (l : List ℕ) → All Small l → Distinct l → Distinct (map byte l)
+pub different : (l : List ℕ) → All Small l → Distinct l → Distinct (map byte l)
 different [] h d = tt
 different (n ∷ l) h d = (apart l (h .1) (d .0), different l (h .1) (d .1))
   where
@@ -38,7 +38,7 @@ different (n ∷ l) h d = (apart l (h .1) (d .0), different l (h .1) (d .1))
     apart (k ∷ r) s e =
         ((λ q. e .0 (sym (number-byte n (h .0)) ∙ ap number q ∙ number-byte k (s .0))), apart r (s .1) (e .1))
 
-in-map : {A B : Type 0} (f : A → B) (l : List A) (a : A) → In a l → In (f a) (map f l)
+pub in-map : {A B : Type 0} (f : A → B) (l : List A) (a : A) → In a l → In (f a) (map f l)
 in-map f (b ∷ l) a (inl e) = inl (ap f e)
 in-map f (b ∷ l) a (inr i) = inr (in-map f l a i)
 
@@ -46,10 +46,10 @@ number-space : SpaceCarries (itself field) (itself plain.bytes) number number
 number-space = record { none = refl; plus = λ a b. refl; scaled = λ a b. refl }
 
 -- a function of bytes for a function of numbers
-abbrev over : (ℕ → ℕ) → Byte → Byte
+abbrev pub over : (ℕ → ℕ) → Byte → Byte
 over f b = byte (f (number b))
 
-only-small : (q p : ℕ) → Small q → Small p → Small (only plain.bytes q p)
+pub only-small : (q p : ℕ) → Small q → Small p → Small (only plain.bytes q p)
 only-small q p hq hp =
     subst Small
     (only-carried field plain.bytes number number-carries (byte q) (byte p)
@@ -68,7 +68,7 @@ module _ (ps : List ℕ) (small : All Small ps) where
       map-map number (over f) (map byte ps) ∙ map-map (λ b. number (over f b)) byte ps
       ∙ map-same _ _ ps (all-both (λ p s t. ap (λ (n : ℕ). f n % 256) (number-byte p s) ∙ number-byte (f p) t) ps small h)
 
-  value-back : (f : ℕ → ℕ) → All (λ p. Small (f p)) ps → (t : ℕ) → Small t
+  pub value-back : (f : ℕ → ℕ) → All (λ p. Small (f p)) ps → (t : ℕ) → Small t
       → number (value field (interpolate field inverse (map byte ps) (map (over f) (map byte ps))) (byte t))
       ≡ value plain.bytes (interpolate plain.bytes plain.inverse ps (map f ps)) t
   value-back f h t ht =
@@ -90,7 +90,7 @@ module _ (ps : List ℕ) (small : All Small ps) where
       weight-carried field plain.bytes number number-carries inverse plain.inverse number-inverse (map byte ps) (byte p) (byte t)
       ∙ (λ i. weight plain.bytes plain.inverse (there-and-back ps small i) (number-byte p hp i) (number-byte t ht i))
 
-  weights-back : (t : ℕ) → Small t
+  pub weights-back : (t : ℕ) → Small t
       → map number (map (λ b. weight field inverse (map byte ps) b (byte t)) (map byte ps)) ≡ map (λ p. weight plain.bytes plain.inverse ps p t) ps
   weights-back t ht =
       map-map number _ (map byte ps) ∙ map-map _ byte ps

@@ -1,0 +1,35 @@
+-- The words of demand 3: bodies and padded blocks of bytes, what it is for one block to have them all, and for a seed to allow a list.
+use mathlib.Core.Path.{_≡_}
+use mathlib.Core.List.{List, map}
+use Prim.Native.Nat.{ℕ, _*_, _<_}
+use lib.ListN.{length}
+use Rattle.algebra.specs.Several.{All}
+use Rattle.column.specs.declared.Column.{Column}
+use Rattle.column.specs.Column.{from-seed}
+use Rattle.code.specs.Cutting.{points, body}
+use Rattle.fingerprint.specs.Fingerprint.{fingerprint-at, Matches}
+
+-- l is n bytes
+abbrev pub Bytes : ℕ → List ℕ → Type 0
+Bytes n l = (length l ≡ n) × All (λ b. b < 256) l
+
+-- u is three bytes
+abbrev pub IsColumn : Column → Type 0
+IsColumn u = (u .a < 256) × (u .b < 256) × (u .c < 256)
+
+-- the bodies with these indexes are the block's: "one padded block has them all"
+abbrev pub HasAll : ℕ → ℕ → List ℕ → List ℕ → (ℕ → List ℕ) → Type 0
+HasAll m F block indexes bodies = All (λ i. body m F block i ≡ bodies i) indexes
+
+-- "that block's m fingerprints": those of bodies 0 to m - 1
+unfoldable pub own-prints : ℕ → ℕ → List ℕ → ℕ → List Column
+own-prints m F block seed = map (λ j. fingerprint-at (from-seed seed) (body m F block j)) (points m)
+
+-- the list matches every body at this seed
+abbrev pub MatchesAll : ℕ → List ℕ → (ℕ → List ℕ) → ℕ → List Column → Type 0
+MatchesAll m indexes bodies seed prints = All (λ i. Matches m i (from-seed seed) (bodies i) prints) indexes
+
+-- the seed allows a list of m fingerprints, from any writer, that matches every body
+abbrev pub Allows : ℕ → List ℕ → (ℕ → List ℕ) → ℕ → Type 0
+Allows m indexes bodies seed =
+    (prints : List Column) × (length prints ≡ m) × All IsColumn prints × MatchesAll m indexes bodies seed prints
