@@ -4,7 +4,7 @@ use mathlib.Core.Logic.{_≢_, _⊎_, inl, inr}
 use mathlib.Core.List.{List, [], _∷_, map}
 use Prim.Native.Nat.{ℕ, zero, suc, _<_, suc-le-suc}
 use native.Mathlib.Nat.{le-of-suc-le-suc, not-suc-le-zero, zero-lt-suc, suc-ne-zero, suc-inj}
-use lib.ListN.{length, getD}
+use lib.ListN.{length, getD, take}
 use Rattle.algebra.specs.Several.{listed, All, In, Distinct}
 
 -- what all entries have, each has
@@ -71,3 +71,21 @@ unfolding listed
 in-listed zero f k h = absurd (not-suc-le-zero h)
 in-listed (suc n) f zero h = inl refl
 in-listed (suc n) f (suc k) h = inr (in-listed n (λ j. f (suc j)) k (le-of-suc-le-suc h))
+
+-- what the images of all entries have, all images have
+pub all-map : {A B : Type 0} (P : B → Type 0) (f : A → B) (l : List A) → All (λ a. P (f a)) l → All P (map f l)
+all-map P f [] h = tt
+all-map P f (a ∷ l) h = (h .0, all-map P f l (h .1))
+
+-- the first entries have what all have, are among them, and are different where all are
+pub all-take : {A : Type 0} (P : A → Type 0) (n : ℕ) (l : List A) → All P l → All P (take n l)
+all-take P zero [] h = tt
+all-take P zero (a ∷ l) h = tt
+all-take P (suc n) [] h = tt
+all-take P (suc n) (a ∷ l) h = (h .0, all-take P n l (h .1))
+
+pub distinct-take : {A : Type 0} (n : ℕ) (l : List A) → Distinct l → Distinct (take n l)
+distinct-take zero [] d = tt
+distinct-take zero (a ∷ l) d = tt
+distinct-take (suc n) [] d = tt
+distinct-take (suc n) (a ∷ l) d = (all-take _ n l (d .0), distinct-take n l (d .1))

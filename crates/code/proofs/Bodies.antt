@@ -59,10 +59,10 @@ some : (m F k : ℕ) → k < m * F → 0 < F
 some m zero k l = absurd (not-suc-le-zero (subst (λ (n : ℕ). k < n) (mul-zero m) l))
 some m (suc F) k l = zero-lt-suc F
 
-row : (m F k : ℕ) → k < m * F → k / F < m
+pub row : (m F k : ℕ) → k < m * F → k / F < m
 row m F k l = div-lt-iff-lt-mul (some m F k l) .1 l
 
-place : (m F k : ℕ) → k < m * F → k % F < F
+pub place : (m F k : ℕ) → k < m * F → k % F < F
 place m F k l = mod-lt k (some m F k l)
 
 module _ (m F : ℕ) (hm : m ≤ 256) (block : List ℕ) (hb : All Small block) where
@@ -95,7 +95,7 @@ module _ (m F : ℕ) (hm : m ≤ 256) (block : List ℕ) (hb : All Small block) 
   unfolding body
   body-small i h = all-listed Small F (byte-of m F block i) (λ k l. byte-small i h k)
 
-  body-at : (i k : ℕ) → k < F → getD (body m F block i) k 0 ≡ byte-of m F block i k
+  pub body-at : (i k : ℕ) → k < F → getD (body m F block i) k 0 ≡ byte-of m F block i k
   unfolding body
   body-at i k h = listed-at F (byte-of m F block i) 0 k h
 

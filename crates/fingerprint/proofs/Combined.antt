@@ -24,7 +24,7 @@ use Rattle.fingerprint.proofs.Linear.{scaling, Scales, value-combined}
 use Rattle.fingerprint.proofs.Reading.{columns-in, column-at, columns-listed}
 
 -- column s of a body, as a column of bytes
-pub byte-column : List ℕ → ℕ → Triple Byte
+unfoldable pub byte-column : List ℕ → ℕ → Triple Byte
 byte-column body s =
     record { a = byte (getD body (3 * s) 0); b = byte (getD body (3 * s + 1) 0); c = byte (getD body (3 * s + 2) 0) }
 
