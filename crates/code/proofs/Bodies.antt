@@ -112,7 +112,8 @@ module _ (m F : ℕ) (hm : m ≤ 256) (block : List ℕ) (hb : All Small block) 
       within l =
           body-at i k l ∙ byte-combined i h k
           ∙ ap (combined (itself bytes) (map (coefficient-of m i) (points m)))
-            (map-same _ _ (points m) (all-of _ (points m) (λ j q. sym (body-at j k l ∙ byte-own j (all-at _ (points m) (points-below m) j q) k))))
+          (map-same _ _ (points m) (all-of _ (points m) (λ j q. sym (body-at j k l ∙ byte-own j (all-at _ (points m) (points-below m) j q) k))))
+
       beyond : F ≤ k → getD (body m F block i) k 0
           ≡ combined (itself bytes) (map (coefficient-of m i) (points m)) (map (λ j. getD (body m F block j) k 0) (points m))
       beyond g =

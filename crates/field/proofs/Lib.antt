@@ -4,7 +4,6 @@ pub mod Cases
 pub mod Inverses
 pub mod Laws
 pub mod Lookups
-pub mod Numbers
 pub mod Places
 pub mod Power
 pub mod Product

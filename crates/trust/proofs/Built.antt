@@ -87,9 +87,10 @@ module _ (m F : ℕ) (hm : m ≤ 256) (ps : List ℕ) (sp : All Small ps) (dp : 
   -- the block that the bodies fix has m F bytes
   pub built-bytes : Bytes (m * F) (joined m F ps bodies)
   unfolding joined regained
-  built-bytes =
-      (listed-length (m * F) _,
-      all-listed Small (m * F) _ (λ k h. plain-small ps sp (λ i. getD (bodies i) (k % F) 0) (at-hand (k % F)) (k / F) (lt-of-lt-of-le (row m F k h) hm)))
+  built-bytes = (
+    listed-length (m * F) _,
+    all-listed Small (m * F) _ (λ k h. plain-small ps sp (λ i. getD (bodies i) (k % F) 0) (at-hand (k % F)) (k / F) (lt-of-lt-of-le (row m F k h) hm)),
+  )
 
   built-source : (j k : ℕ) → j < m → k < F → source F (joined m F ps bodies) k j ≡ regained ps bodies j k
   unfolding source joined
@@ -99,24 +100,27 @@ module _ (m F : ℕ) (hm : m ≤ 256) (ps : List ℕ) (sp : All Small ps) (dp : 
   -- and its body i is what the first m bodies say of i, of which the bodies at hand speak
   pub built-said : (i : ℕ) → Small i → (k : ℕ) → k < F
       → byte-of m F (joined m F ps bodies) i k
-        ≡ number (said (map byte (points m)) (byte i) (λ q. said (map byte ps) q (known k)))
+      ≡ number (said (map byte (points m)) (byte i) (λ q. said (map byte ps) q (known k)))
   unfolding byte-of
   built-said i hi k hk =
       sym (value-back (points m) (points-small m hm) src small i hi)
       ∙ ap number
-        (lagrange field laws inverse times-inverse (over src) (map byte (points m)) (different (points m) (points-small m hm) (points-distinct m)) (byte i)
-        ∙ ap (combined (itself field) (map (λ q. weight field inverse (map byte (points m)) q (byte i)) (map byte (points m)))) heard)
+      (lagrange field laws inverse times-inverse (over src) (map byte (points m)) (different (points m) (points-small m hm) (points-distinct m)) (byte i)
+      ∙ ap (combined (itself field) (map (λ q. weight field inverse (map byte (points m)) q (byte i)) (map byte (points m)))) heard)
     where
       src : ℕ → ℕ
       src = source F (joined m F ps bodies) k
+
       small : All (λ j. Small (src j)) (points m)
       small = all-of _ (points m) (λ j q. unfold source in getD-small (joined m F ps bodies) (built-bytes .1) (j * F + k))
+
       one : (j : ℕ) → j < m → over src (byte j) ≡ said (map byte ps) (byte j) (known k)
       one j h =
           ap byte (ap src (number-byte j hj) ∙ built-source j k h hk ∙ regained-said j hj k) ∙ byte-number _
         where
           hj : Small j
           hj = lt-of-lt-of-le h hm
+
       heard : map (over src) (map byte (points m)) ≡ map (λ q. said (map byte ps) q (known k)) (map byte (points m))
       heard =
           map-map (over src) byte (points m) ∙ map-same _ _ (points m) (all-of _ (points m) (λ j q. one j (all-at _ (points m) (points-below m) j q)))

@@ -1,46 +1,32 @@
--- Demand 3, both halves.
-use mathlib.Core.Path.{_≡_, refl, sym, ap, ap₂, subst, _∙_}
-use mathlib.Core.Logic.{_≢_}
-use mathlib.Core.List.{List, [], _∷_, map}
-use Prim.Native.Nat.{ℕ, zero, suc, _+_, _-_, _*_, _/_, _%_, _<_, _≤_}
-use native.Mathlib.Nat.{lt-of-lt-of-le}
+-- Demand 3: the two halves, as `specs/Trust` states them.
+use mathlib.Core.Path.{_≡_, sym, ap, _∙_}
+use Prim.Native.Nat.{ℕ, _+_, _-_, _/_, _%_, _<_, _≤_}
+use native.Mathlib.Nat.{lt-of-lt-of-le, le-trans}
 use native.Mathlib.Omega.{arith}
-use lib.ListN.{length, getD}
-use Rattle.algebra.specs.Several.{listed, All, In, Distinct}
-use Rattle.algebra.proofs.Several.{all-at, all-of, all-both}
-use Rattle.column.specs.declared.Column.{Column}
+use lib.ListN.{length}
+use Rattle.algebra.proofs.Several.{all-both}
 use Rattle.column.specs.Column.{from-seed}
-use Rattle.column.proofs.Laws.{numbers}
-use Rattle.code.specs.Cutting.{points, body, coefficient-of}
-use Rattle.code.proofs.Plain.{Small}
-use Rattle.code.proofs.Bodies.{points-small, body-small, body-combined, body-length-is, coefficient-small}
-use Rattle.fingerprint.specs.Fingerprint.{fingerprint-at, called-for, Matches}
-use Rattle.fingerprint.proofs.Combined.{fingerprint-combined}
-use Rattle.trust.specs.Trust.{Bytes, IsColumn, HasAll, own-prints, MatchesAll, Allows}
-use Rattle.trust.proofs.Lifted.{lift, numbers-lift, numbers-same, seed-column, seeds-distinct, print-column, listed-again}
+use Rattle.fingerprint.specs.Fingerprint.{fingerprint-at}
+use Rattle.fingerprint.proofs.Reading.{columns-in}
+use Rattle.trust.specs.Trust.{own-prints, Taken, OneBlockMatches, FewSeeds}
+use Rattle.trust.proofs.Lifted.{seed-column}
+use Rattle.trust.proofs.Own.{own-match}
+use Rattle.trust.proofs.Few.{few-seeds}
 
--- every body of a block matches the block's own fingerprints at every seed column of bytes
-pub own-match : (m F : ℕ) → m ≤ 256 → (block : List ℕ) → All Small block → (i : ℕ) → Small i → (y : Column) → IsColumn y
-    → fingerprint-at y (body m F block i) ≡ called-for m i (map (λ j. fingerprint-at y (body m F block j)) (points m))
-unfolding called-for
-own-match m F hm block hb i hi y hy =
-    subst (λ (u : Column). fingerprint-at u (body m F block i) ≡ called-for m i (map (λ j. fingerprint-at u (body m F block j)) (points m)))
-    (numbers-lift y hy)
-    (fingerprint-combined (points m) (coefficient-of m i)
-      (all-of _ (points m) (λ j q. coefficient-small m hm i hi j (all-at _ (points m) (points-small m hm) j q)))
-      (body m F block)
-      (all-of _ (points m) (λ j q. body-small m F hm block hb j (all-at _ (points m) (points-small m hm) j q)))
-      (body m F block i) (body-small m F hm block hb i hi)
-      (all-of _ (points m) (λ j q. body-length-is m F hm block hb j ∙ sym (body-length-is m F hm block hb i)))
-      (body-combined m F hm block hb i hi) (lift y))
-
--- "If one padded block has them all, that block's m fingerprints match every body at every seed."
-pub one-block-matches : (m n F : ℕ) → m ≤ n → n ≤ 256 → (block : List ℕ) → Bytes (m * F) block
-    → (indexes : List ℕ) → All (λ i. i < n) indexes → (bodies : ℕ → List ℕ) → HasAll m F block indexes bodies
-    → (seed : ℕ) → seed ≤ 16777215 → MatchesAll m indexes bodies seed (own-prints m F block seed)
+pub first-half : OneBlockMatches
 unfolding own-prints
-one-block-matches m n F hm hn block hb indexes hi bodies has seed hs =
+first-half m n F indexes bodies taken block hb has seed hs =
     all-both
     (λ i l e. ap (fingerprint-at (from-seed seed)) (sym e)
-      ∙ own-match m F (omega arith) block (hb .1) i (lt-of-lt-of-le l hn) (from-seed seed) (seed-column seed hs))
-    indexes hi has
+    ∙ own-match m F (le-trans (taken .fewer) (taken .indexable)) block (hb .1) i (lt-of-lt-of-le l (taken .indexable)) (from-seed seed) (seed-column seed hs))
+    indexes (taken .below) has
+
+fewer-than : (k F : ℕ) → F % 3 ≡ 0 → k < columns-in F → k ≤ F / 3 - 1
+unfolding columns-in
+fewer-than k F whole h = omega arith
+
+pub second-half : FewSeeds
+second-half m n F indexes bodies taken none seeds ds hs allow =
+    fewer-than (length seeds) F (taken .columns)
+    (few-seeds m n F (taken .fewer) (taken .indexable) indexes (taken .different) (taken .below) (taken .enough) bodies (taken .bytes)
+    none seeds ds hs allow)

@@ -12,7 +12,7 @@ use Rattle.algebra.specs.Combination.{combined, itself}
 use Rattle.algebra.specs.Polynomial.{value, weight}
 use Rattle.algebra.proofs.Several.{all-at, all-of, all-both, all-map, all-take, distinct-take, map-same, map-listed, listed-at}
 use Rattle.algebra.proofs.Carried.{combined-carried}
-use Rattle.field.specs.Byte.{bytes} 
+use Rattle.field.specs.Byte.{bytes}
 use Rattle.field.proofs.Byte.{Byte, field, laws, number, byte, number-byte, inverse, times-inverse}
 use Rattle.column.specs.declared.Column.{Column}
 use Rattle.column.specs.Triple.{Triple, multiple, triples, triple-space}
@@ -76,37 +76,43 @@ module _ (m n F : ℕ) (hm : m ≤ n) (hn : n ≤ 256)
   -- a list that matches at a seed, in the field of columns
   matched : (s : ℕ) → s ≤ 16777215 → Allows m indexes bodies s
       → (φ : Byte → Triple Byte)
-        × All (λ r. value (triples field) (listed (columns-in F) (columned r)) (lift (from-seed s)) ≡ said-columns (map byte (points m)) r φ) (map byte indexes)
+      × All (λ r. value (triples field) (listed (columns-in F) (columned r)) (lift (from-seed s)) ≡ said-columns (map byte (points m)) r φ) (map byte indexes)
   matched s hs allowed = (φ, all-map _ byte indexes (all-of _ indexes (λ i q. numbers-same _ _ (left i q ∙ all-at _ indexes (allowed .3) i q ∙ sym (right i (all-at _ indexes small i q))))))
     where
       prints : List Column
       prints = allowed .0
+
       y : Triple Byte
       y = lift (from-seed s)
+
       φ : Byte → Triple Byte
       φ b = lift (getD prints (number b) zero-column)
+
       left : (i : ℕ) → In i indexes
           → numbers (value (triples field) (listed (columns-in F) (columned (byte i))) y) ≡ fingerprint-at (from-seed s) (bodies i)
       left i q =
           ap₂ (λ (k : ℕ) (f : ℕ → Triple Byte). numbers (value (triples field) (listed (columns-in k) f) y))
-            (sym (all-at _ indexes hb i q .0)) (columned-byte i (all-at _ indexes small i q))
+          (sym (all-at _ indexes hb i q .0)) (columned-byte i (all-at _ indexes small i q))
           ∙ sym (lifted (bodies i) (all-at _ indexes hb i q .1) y)
           ∙ ap (λ (u : Column). fingerprint-at u (bodies i)) (numbers-lift (from-seed s) (seed-column s hs))
+
       one : (j : ℕ) → Small j → numbers (φ (byte j)) ≡ getD prints j zero-column
       one j h =
           numbers-lift _ (print-column prints (allowed .2) (number (byte j))) ∙ ap (λ (k : ℕ). getD prints k zero-column) (number-byte j h)
+
       read : map numbers (map φ (map byte (points m))) ≡ prints
       read =
           map-map numbers φ (map byte (points m)) ∙ map-map (λ b. numbers (φ b)) byte (points m)
           ∙ map-same _ _ (points m) (all-of _ (points m) (λ j q. one j (all-at _ (points m) (points-small m m≤) j q)))
           ∙ points-map m (λ j. getD prints j zero-column) ∙ listed-again prints zero-column m (allowed .1)
+
       right : (i : ℕ) → Small i → numbers (said-columns (map byte (points m)) (byte i) φ) ≡ called-for m i prints
       right i hi =
           combined-carried (triple-space field) column-space number numbers numbers-carry-space _ _
           ∙ ap₂ (combined column-space)
-            (weights-back (points m) (points-small m m≤) i hi
-            ∙ map-same _ _ (points m) (all-of _ (points m) (λ j q. sym (coefficient-closed m m≤ i hi j (all-at _ (points m) (points-below m) j q)))))
-            read
+          (weights-back (points m) (points-small m m≤) i hi
+          ∙ map-same _ _ (points m) (all-of _ (points m) (λ j q. sym (coefficient-closed m m≤ i hi j (all-at _ (points m) (points-below m) j q)))))
+          read
           ∙ combined-called m i prints
 
   -- with as many such seeds as columns, the block that the chosen bodies fix has every body
@@ -114,7 +120,7 @@ module _ (m n F : ℕ) (hm : m ≤ n) (hn : n ≤ 256)
       (many : columns-in F ≤ length seeds) (allow : All (Allows m indexes bodies) seeds) where
     forced : (i : ℕ) → In i indexes
         → listed (columns-in F) (columned (byte i))
-          ≡ listed (columns-in F) (λ s. said-columns (map byte (points m)) (byte i) (λ q. said-columns (map byte chosen) q (λ p. columned p s)))
+        ≡ listed (columns-in F) (λ s. said-columns (map byte (points m)) (byte i) (λ q. said-columns (map byte chosen) q (λ p. columned p s)))
     forced i q =
         one-block field laws inverse times-inverse (triples field) column-laws (multiple field) scales
         (map byte chosen) (map byte (points m))
@@ -140,11 +146,11 @@ module _ (m n F : ℕ) (hm : m ≤ n) (hn : n ≤ 256)
     forced-byte i q k h =
         sym (number-byte _ (getD-small (bodies i) (all-at _ indexes hb i q .1) k))
         ∙ ap number
-          (sym (byte-part (bodies i) k) ∙ ap (part (k % 3)) (forced-column i q (k / 3) inside)
-          ∙ part-said (k % 3) (map byte (points m)) (byte i) _
-          ∙ ap (said (map byte (points m)) (byte i))
-            (fun-ext (λ b. part-said (k % 3) (map byte chosen) b _
-              ∙ ap (said (map byte chosen) b) (fun-ext (λ p. byte-part (bodies (number p)) k)))))
+        (sym (byte-part (bodies i) k) ∙ ap (part (k % 3)) (forced-column i q (k / 3) inside)
+        ∙ part-said (k % 3) (map byte (points m)) (byte i) _
+        ∙ ap (said (map byte (points m)) (byte i))
+        (fun-ext (λ b. part-said (k % 3) (map byte chosen) b _
+        ∙ ap (said (map byte chosen) b) (fun-ext (λ p. byte-part (bodies (number p)) k)))))
         ∙ sym (built-said m F m≤ chosen small-chosen (distinct-take m indexes di) bodies bytes-chosen i (all-at _ indexes small i q) k h)
       where
         inside : k / 3 < columns-in F
@@ -154,8 +160,8 @@ module _ (m n F : ℕ) (hm : m ≤ n) (hn : n ≤ 256)
     has-all =
         all-of _ indexes
         (λ i q. ext-getD 0 _ (bodies i) (body-length-is m F m≤ fixed (built .1) i ∙ sym (all-at _ indexes hb i q .0))
-          (λ k h. let k< : k < F = subst (λ (j : ℕ). k < j) (body-length-is m F m≤ fixed (built .1) i) h in
-            body-at m F m≤ fixed (built .1) i k k< ∙ sym (forced-byte i q k k<)))
+        (λ k h. let k< : k < F = subst (λ (j : ℕ). k < j) (body-length-is m F m≤ fixed (built .1) i) h in
+        body-at m F m≤ fixed (built .1) i k k< ∙ sym (forced-byte i q k k<)))
 
   -- "If none has, at most F/3 - 1 of the seeds allow any list of m fingerprints at all, from any writer, that matches all k":
   -- any list of different seeds each of which allows one is that short

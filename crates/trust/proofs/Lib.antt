@@ -1,5 +1,8 @@
 pub mod Forced
 pub mod Lifted
-pub mod Demand
+pub mod Own
 pub mod Built
 pub mod Few
+pub mod Demand
+pub mod OneSeed
+pub mod Numbers

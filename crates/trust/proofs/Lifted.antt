@@ -45,10 +45,11 @@ seeds-distinct (s ∷ seeds) h d = (apart seeds (h .1) (d .0), seeds-distinct se
   where
     apart : (r : List ℕ) → All (λ t. t ≤ 16777215) r → All (λ t. s ≢ t) r → All (λ u. lift (from-seed s) ≢ u) (map (λ t. lift (from-seed t)) r)
     apart [] k e = tt
-    apart (t ∷ r) k e =
-        ((λ q. e .0 (seed-one-to-one s t (h .0) (k .0)
+    apart (t ∷ r) k e = (
+      (λ q. e .0 (seed-one-to-one s t (h .0) (k .0)
           (sym (numbers-lift (from-seed s) (seed-column s (h .0))) ∙ ap numbers q ∙ numbers-lift (from-seed t) (seed-column t (k .0))))),
-        apart r (k .1) (e .1))
+      apart r (k .1) (e .1),
+    )
 
 -- what is read of a list of columns is a column
 pub print-column : (prints : List Column) → All IsColumn prints → (k : ℕ) → IsColumn (getD prints k zero-column)

@@ -1,1 +1,2 @@
 pub mod Trust
+pub mod Numbers
