@@ -1,6 +1,6 @@
 -- Demand 3: the two halves, as `specs/Trust` states them.
 use mathlib.Core.Path.{_≡_, sym, ap, _∙_}
-use Prim.Native.Nat.{ℕ, _+_, _-_, _/_, _%_, _<_, _≤_}
+use Prim.Native.Nat.{ℕ, _%_, _<_, _≤_}
 use native.Mathlib.Nat.{lt-of-lt-of-le, le-trans}
 use native.Mathlib.Omega.{arith}
 use lib.ListN.{length}
@@ -8,7 +8,7 @@ use Rattle.algebra.proofs.Several.{all-both}
 use Rattle.column.specs.Column.{from-seed}
 use Rattle.fingerprint.specs.Fingerprint.{fingerprint-at}
 use Rattle.fingerprint.proofs.Reading.{columns-in}
-use Rattle.trust.specs.Trust.{own-prints, Taken, OneBlockMatches, FewSeeds}
+use Rattle.trust.specs.Trust.{own-prints, Taken, OneBlockMatches, at-most, FewSeeds}
 use Rattle.trust.proofs.Lifted.{seed-column}
 use Rattle.trust.proofs.Own.{own-match}
 use Rattle.trust.proofs.Few.{few-seeds}
@@ -21,7 +21,7 @@ first-half m n F indexes bodies taken block hb has seed hs =
     ∙ own-match m F (le-trans (taken .fewer) (taken .indexable)) block (hb .1) i (lt-of-lt-of-le l (taken .indexable)) (from-seed seed) (seed-column seed hs))
     indexes (taken .below) has
 
-fewer-than : (k F : ℕ) → F % 3 ≡ 0 → k < columns-in F → k ≤ F / 3 - 1
+fewer-than : (k F : ℕ) → F % 3 ≡ 0 → k < columns-in F → k ≤ at-most F
 unfolding columns-in
 fewer-than k F whole h = omega arith
 
