@@ -2,6 +2,7 @@
 use Prim.Native.Nat.{ℕ, _/_, _%_}
 use mathlib.Core.Bool.{Bool, true, false}
 use lib.Dec.{ltb}
+use Rattle.limits.specs.Limits.{largest-seed}
 use Rattle.algebra.specs.Carrier.{Carrier}
 use Rattle.algebra.specs.Combination.{Space}
 use Rattle.field.specs.Byte.{bytes}
@@ -35,7 +36,7 @@ times u v = column (product bytes (triple u) (triple v))
 
 -- "Seed number s is the column (s mod 256, s / 256 mod 256, s / 65,536). As a column alone, a larger number gives the zero column"
 unfoldable pub from-seed : ℕ → Column
-from-seed s = elim (ltb 16777215 s) [ true ↦ zero | false ↦ record { a = s % 256; b = s / 256 % 256; c = s / 65536 } ]
+from-seed s = elim (ltb largest-seed s) [ true ↦ zero | false ↦ record { a = s % 256; b = s / 256 % 256; c = s / 65536 } ]
 
 -- columns as a carrier, and as a space over the bytes
 abbrev pub columns : Carrier Column

@@ -14,11 +14,11 @@ impl Column {
 
     pub const ONE: Column = Column { a: 1, b: 0, c: 0 };
 
-    // The column of a seed number; of a number over 16,777,215 the zero column.
+    // The column of a seed number; of a number over the largest seed the zero column.
     pub fn from_seed(seed: u32) -> Column
         ensures { λ r. ⌜ r ≡ column.from-seed seed ⌝ }
     {
-        if seed > 16777215 {
+        if seed > limits::LARGEST_SEED {
             return Column::ZERO;
         }
         Column {

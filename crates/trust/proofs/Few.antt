@@ -7,6 +7,7 @@ use native.Mathlib.Decide.{decLe}
 use native.Mathlib.Omega.{arith}
 use lib.ListN.{length, getD, take, length-map}
 use lib.Seq.{ext-getD, length-take-le}
+use Rattle.limits.specs.Limits.{largest-seed}
 use Rattle.algebra.specs.Several.{listed, All, In, Distinct}
 use Rattle.algebra.specs.Combination.{combined, itself}
 use Rattle.algebra.specs.Polynomial.{value, weight}
@@ -74,7 +75,7 @@ module _ (m n F : ℕ) (hm : m ≤ n) (hn : n ≤ 256)
   columned-byte i h = ap (λ (k : ℕ). byte-column (bodies k)) (number-byte i h)
 
   -- a list that matches at a seed, in the field of columns
-  matched : (s : ℕ) → s ≤ 16777215 → Allows m indexes bodies s
+  matched : (s : ℕ) → s ≤ largest-seed → Allows m indexes bodies s
       → (φ : Byte → Triple Byte)
       × All (λ r. value (triples field) (listed (columns-in F) (columned r)) (lift (from-seed s)) ≡ said-columns (map byte (points m)) r φ) (map byte indexes)
   matched s hs allowed = (φ, all-map _ byte indexes (all-of _ indexes (λ i q. numbers-same _ _ (left i q ∙ all-at _ indexes (allowed .3) i q ∙ sym (right i (all-at _ indexes small i q))))))
@@ -116,7 +117,7 @@ module _ (m n F : ℕ) (hm : m ≤ n) (hn : n ≤ 256)
           ∙ combined-called m i prints
 
   -- with as many such seeds as columns, the block that the chosen bodies fix has every body
-  module _ (seeds : List ℕ) (ds : Distinct seeds) (hs : All (λ s. s ≤ 16777215) seeds)
+  module _ (seeds : List ℕ) (ds : Distinct seeds) (hs : All (λ s. s ≤ largest-seed) seeds)
       (many : columns-in F ≤ length seeds) (allow : All (Allows m indexes bodies) seeds) where
     forced : (i : ℕ) → In i indexes
         → listed (columns-in F) (columned (byte i))
@@ -166,7 +167,7 @@ module _ (m n F : ℕ) (hm : m ≤ n) (hn : n ≤ 256)
   -- "If none has, at most F/3 - 1 of the seeds allow any list of m fingerprints at all, from any writer, that matches all k":
   -- any list of different seeds each of which allows one is that short
   pub few-seeds : ((block : List ℕ) → Bytes (m * F) block → HasAll m F block indexes bodies → ⊥)
-      → (seeds : List ℕ) → Distinct seeds → All (λ s. s ≤ 16777215) seeds → All (Allows m indexes bodies) seeds
+      → (seeds : List ℕ) → Distinct seeds → All (λ s. s ≤ largest-seed) seeds → All (Allows m indexes bodies) seeds
       → length seeds < columns-in F
   few-seeds none seeds ds hs allow =
       elim (decLe (columns-in F) (length seeds)) [

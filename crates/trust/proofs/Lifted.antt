@@ -7,6 +7,7 @@ use native.Mathlib.Omega.{arith}
 use lib.Dec.{lit<}
 use lib.ListN.{length, getD}
 use lib.Seq.{ext-getD}
+use Rattle.limits.specs.Limits.{largest-seed}
 use Rattle.algebra.specs.Several.{listed, All, In, Distinct}
 use Rattle.algebra.proofs.Several.{all-at, listed-length, listed-at}
 use Rattle.field.proofs.Byte.{Byte, number, byte, number-byte, same}
@@ -32,18 +33,18 @@ numbers-same u v e =
     triple-path u v (same (ap (λ (w : Column). w .a) e)) (same (ap (λ (w : Column). w .b) e)) (same (ap (λ (w : Column). w .c) e))
 
 -- the column of a seed number has bytes
-pub seed-column : (s : ℕ) → s ≤ 16777215 → IsColumn (from-seed s)
+pub seed-column : (s : ℕ) → s ≤ largest-seed → IsColumn (from-seed s)
 seed-column s h = subst IsColumn (sym (small-seed s h)) (omega arith, omega arith, omega arith)
 
 pub zero-is-column : IsColumn zero-column
 zero-is-column = (lit< tt, lit< tt, lit< tt)
 
 -- different seeds are different columns of bytes
-pub seeds-distinct : (seeds : List ℕ) → All (λ s. s ≤ 16777215) seeds → Distinct seeds → Distinct (map (λ s. lift (from-seed s)) seeds)
+pub seeds-distinct : (seeds : List ℕ) → All (λ s. s ≤ largest-seed) seeds → Distinct seeds → Distinct (map (λ s. lift (from-seed s)) seeds)
 seeds-distinct [] h d = tt
 seeds-distinct (s ∷ seeds) h d = (apart seeds (h .1) (d .0), seeds-distinct seeds (h .1) (d .1))
   where
-    apart : (r : List ℕ) → All (λ t. t ≤ 16777215) r → All (λ t. s ≢ t) r → All (λ u. lift (from-seed s) ≢ u) (map (λ t. lift (from-seed t)) r)
+    apart : (r : List ℕ) → All (λ t. t ≤ largest-seed) r → All (λ t. s ≢ t) r → All (λ u. lift (from-seed s) ≢ u) (map (λ t. lift (from-seed t)) r)
     apart [] k e = tt
     apart (t ∷ r) k e = (
       (λ q. e .0 (seed-one-to-one s t (h .0) (k .0)

@@ -8,6 +8,7 @@ use native.Mathlib.Decide.{ℕ-discrete}
 use native.Mathlib.Omega.{arith}
 use lib.Dec.{lit≤, lit<}
 use lib.ListN.{length, getD}
+use Rattle.limits.specs.Limits.{largest-seed}
 use Rattle.algebra.specs.Several.{listed, All, Distinct}
 use Rattle.algebra.specs.Polynomial.{value}
 use Rattle.algebra.proofs.Several.{listed-length}
@@ -36,7 +37,7 @@ six-small = (lit< tt, (lit< tt, (lit< tt, (lit< tt, (lit< tt, (lit< tt, tt))))))
 other-small : All Small other
 other-small = (lit< tt, (lit< tt, (lit< tt, (lit< tt, (lit< tt, (lit< tt, tt))))))
 
-agree-at : (t : ℕ) → t ≤ 16777215 → fingerprint-at (from-seed t) six ≡ fingerprint-at (from-seed t) other
+agree-at : (t : ℕ) → t ≤ largest-seed → fingerprint-at (from-seed t) six ≡ fingerprint-at (from-seed t) other
     → value (triples field) (two six) (lift (from-seed t)) ≡ value (triples field) (two other) (lift (from-seed t))
 unfolding two
 agree-at t h e =
@@ -58,7 +59,7 @@ at-256 : fingerprint-at (from-seed 256) six ≡ fingerprint-at (from-seed 256) o
 unfolding times product xtime plus column.times column.plus column.from-seed fingerprint-at columns-of value
 at-256 = refl
 
-pub one-seed : (t : ℕ) → t ≤ 16777215 → (fingerprint-at (from-seed t) six ≡ fingerprint-at (from-seed t) other) ↔ (t ≡ 256)
+pub one-seed : (t : ℕ) → t ≤ largest-seed → (fingerprint-at (from-seed t) six ≡ fingerprint-at (from-seed t) other) ↔ (t ≡ 256)
 one-seed t h = (λ e. elim (ℕ-discrete t 256) [ yes same ↦ same | no ne ↦ absurd (different-columns (one e ne)) ], λ e. subst (λ (s : ℕ). fingerprint-at (from-seed s) six ≡ fingerprint-at (from-seed s) other) (sym e) at-256)
   where
     one : fingerprint-at (from-seed t) six ≡ fingerprint-at (from-seed t) other → t ≢ 256 → two six ≡ two other

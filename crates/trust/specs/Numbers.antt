@@ -4,6 +4,7 @@ use mathlib.Core.Logic.{_↔_}
 use mathlib.Core.List.{List, [], _∷_, map}
 use Prim.Native.Nat.{ℕ, _≤_}
 use lib.ListN.{length}
+use Rattle.limits.specs.Limits.{largest-seed}
 use Rattle.algebra.specs.Several.{listed}
 use Rattle.field.specs.Byte.{times, inverse}
 use Rattle.column.specs.declared.Column.{Column}
@@ -34,7 +35,7 @@ Holds (inverse-is a b) = inverse a ≡ b
 Holds (coefficients-are m i cs) = map (coefficient-of m i) (points m) ≡ cs
 Holds (square-is u v) = column.times u u ≡ v
 Holds (print-is s b u) = fingerprint-at (from-seed s) b ≡ u
-Holds (agree-only s b c) = (t : ℕ) → t ≤ 16777215 → (fingerprint-at (from-seed t) b ≡ fingerprint-at (from-seed t) c) ↔ (t ≡ s)
+Holds (agree-only s b c) = (t : ℕ) → t ≤ largest-seed → (fingerprint-at (from-seed t) b ≡ fingerprint-at (from-seed t) c) ↔ (t ≡ s)
 Holds (bodies-are m n block bs) = listed n (body m (body-length (length block) m) block) ≡ bs
 
 abbrev pub col : ℕ → ℕ → ℕ → Column

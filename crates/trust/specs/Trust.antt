@@ -3,6 +3,7 @@ use mathlib.Core.Path.{_≡_}
 use mathlib.Core.List.{List, map}
 use Prim.Native.Nat.{ℕ, _-_, _*_, _/_, _%_, _<_, _≤_}
 use lib.ListN.{length}
+use Rattle.limits.specs.Limits.{largest-seed}
 use Rattle.algebra.specs.Several.{All, Distinct}
 use Rattle.column.specs.declared.Column.{Column}
 use Rattle.column.specs.Column.{from-seed}
@@ -53,7 +54,7 @@ abbrev pub OneBlockMatches : Type 0
 OneBlockMatches =
     (m n F : ℕ) (indexes : List ℕ) (bodies : ℕ → List ℕ) → Taken m n F indexes bodies
     → (block : List ℕ) → Bytes (m * F) block → HasAll m F block indexes bodies
-    → (seed : ℕ) → seed ≤ 16777215 → MatchesAll m indexes bodies seed (own-prints m F block seed)
+    → (seed : ℕ) → seed ≤ largest-seed → MatchesAll m indexes bodies seed (own-prints m F block seed)
 
 -- the second half: "If none has, at most F/3 - 1 of the 16,777,216 seeds allow any list of m fingerprints at all, from any writer,
 -- that matches all k": whoever lists different seeds, each of which allows one, lists no more than these
@@ -64,5 +65,5 @@ abbrev pub FewSeeds : Type 0
 FewSeeds =
     (m n F : ℕ) (indexes : List ℕ) (bodies : ℕ → List ℕ) → Taken m n F indexes bodies
     → ((block : List ℕ) → Bytes (m * F) block → HasAll m F block indexes bodies → ⊥)
-    → (seeds : List ℕ) → Distinct seeds → All (λ seed. seed ≤ 16777215) seeds → All (Allows m indexes bodies) seeds
+    → (seeds : List ℕ) → Distinct seeds → All (λ seed. seed ≤ largest-seed) seeds → All (Allows m indexes bodies) seeds
     → length seeds ≤ at-most F
