@@ -1,11 +1,12 @@
 -- The bodies of a block: the first m are the block itself, every body is a combination of them, and any m give back every other.
 use mathlib.Core.Path.{_≡_, refl, sym, ap, ap₂, subst, _∙_}
+use mathlib.Core.Logic.{_≢_}
 use mathlib.Core.List.{List, [], _∷_, map}
 use Prim.Native.Nat.{ℕ, zero, suc, _+_, _*_, _/_, _%_, _<_, _≤_}
-use native.Mathlib.Nat.{le-trans, le-of-eq, lt-of-lt-of-le, not-suc-le-zero, zero-lt-suc, mul-zero, mod-lt, div-add-mod', div-lt-iff-lt-mul}
+use native.Mathlib.Nat.{le-of-eq, le-trans, le-of-suc-le-suc, lt-irrefl, lt-of-lt-of-le, not-suc-le-zero, zero-lt-suc, mul-zero, mod-lt, div-add-mod', div-lt-iff-lt-mul}
 use native.Mathlib.Decide.{decLt}
 use native.Mathlib.Omega.{arith}
-use lib.ListN.{length, getD, List·getD-eq-default}
+use lib.ListN.{length, getD, take, List·getD-eq-default}
 use lib.Seq.{ext-getD}
 use lib.Dec.{lit<}
 use Rattle.algebra.specs.Several.{listed, All, In, Distinct}
@@ -17,7 +18,7 @@ use Rattle.field.proofs.Sum.{plus-none}
 use Rattle.field.proofs.Product.{times-none}
 use Rattle.code.specs.Cutting.{points, source, byte-of, body, coefficient-of}
 use Rattle.code.specs.Joining.{regained, joined}
-use Rattle.code.proofs.Plain.{Small, plain-lagrange, plain-points, plain-coefficient, plain-small, plain-recovered, only-small}
+use Rattle.code.proofs.Plain.{Small, plain-lagrange, plain-points, plain-coefficient, plain-none, plain-small, plain-recovered, only-small}
 
 pub points-length : (m : ℕ) → length (points m) ≡ m
 unfolding points
@@ -30,6 +31,17 @@ points-small m h = all-listed Small m (λ j. j) (λ k l. lt-of-lt-of-le l h)
 pub points-distinct : (m : ℕ) → Distinct (points m)
 unfolding points
 points-distinct m = listed-distinct m (λ j. j) (λ i j hi hj e. e)
+
+listed-prefix : (m n : ℕ) (f : ℕ → ℕ) → m ≤ n → take m (listed n f) ≡ listed m f
+unfolding listed
+listed-prefix zero n f h = refl
+listed-prefix (suc m) zero f h = absurd (not-suc-le-zero h)
+listed-prefix (suc m) (suc n) f h = ap (λ (l : List ℕ). f zero ∷ l) (listed-prefix m n (λ k. f (suc k)) (le-of-suc-le-suc h))
+
+-- the first m of more points
+pub points-prefix : (m n : ℕ) → m ≤ n → take m (points n) ≡ points m
+unfolding points
+points-prefix m n = listed-prefix m n (λ j. j)
 
 pub in-points : (m j : ℕ) → j < m → In j (points m)
 unfolding points
@@ -152,3 +164,18 @@ unfolding coefficient-of coefficient
 coefficient-small m hm i hi j hj =
     plain-small (points m) (points-small m hm) (only bytes j)
     (all-of _ (points m) (λ p q. only-small j p hj (all-at _ (points m) (points-small m hm) p q))) i hi
+
+-- what is not below m counts nothing
+pub coefficient-beyond : (m : ℕ) → m ≤ 256 → (i : ℕ) → Small i → (j : ℕ) → Small j → m ≤ j → coefficient-of m i j ≡ 0
+unfolding coefficient-of points
+coefficient-beyond m hm i hi j hj h =
+    plain-none (points m) (points-small m hm) (points-distinct m) j hj
+    (all-listed (λ p. j ≢ p) m (λ k. k) (λ k l e. lt-irrefl j (lt-of-lt-of-le (le-of-eq (ap suc e)) (le-trans l h)))) i hi
+
+-- and the closed form over the first w of n points
+pub coefficient-read : (m : ℕ) → m ≤ 256 → (i : ℕ) → Small i → (j : ℕ) → j < m → (n : ℕ) → m ≤ n → (w : ℕ) → w ≡ m → (ps : List ℕ) → ps ≡ points n
+    → weight bytes inverse (take w ps) j i ≡ coefficient-of m i j
+coefficient-read m hm i hi j hj n hn w ew ps ep =
+    ap₂ (λ (k : ℕ) (l : List ℕ). weight bytes inverse (take k l) j i) ew ep
+    ∙ ap (λ (l : List ℕ). weight bytes inverse l j i) (points-prefix m n hn)
+    ∙ sym (coefficient-closed m hm i hi j hj)

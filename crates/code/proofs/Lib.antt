@@ -1,2 +1,5 @@
-pub mod Plain
 pub mod Bodies
+pub mod Lengths
+pub mod Plain
+pub mod Spreads
+pub mod Walks

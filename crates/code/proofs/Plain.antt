@@ -29,14 +29,14 @@ there-and-back [] h = refl
 there-and-back (n ∷ l) h = ap₂ _∷_ (number-byte n (h .0)) (there-and-back l (h .1))
 
 -- different numbers are different bytes
+pub other-bytes : (n : ℕ) → Small n → (l : List ℕ) → All Small l → All (λ k. n ≢ k) l → All (λ b. byte n ≢ b) (map byte l)
+other-bytes n h [] s e = tt
+other-bytes n h (k ∷ l) s e =
+    ((λ q. e .0 (sym (number-byte n h) ∙ ap number q ∙ number-byte k (s .0))), other-bytes n h l (s .1) (e .1))
+
 pub different : (l : List ℕ) → All Small l → Distinct l → Distinct (map byte l)
 different [] h d = tt
-different (n ∷ l) h d = (apart l (h .1) (d .0), different l (h .1) (d .1))
-  where
-    apart : (r : List ℕ) → All Small r → All (λ k. n ≢ k) r → All (λ b. byte n ≢ b) (map byte r)
-    apart [] s e = tt
-    apart (k ∷ r) s e =
-        ((λ q. e .0 (sym (number-byte n (h .0)) ∙ ap number q ∙ number-byte k (s .0))), apart r (s .1) (e .1))
+different (n ∷ l) h d = (other-bytes n (h .0) l (h .1) (d .0), different l (h .1) (d .1))
 
 pub in-map : {A B : Type 0} (f : A → B) (l : List A) (a : A) → In a l → In (f a) (map f l)
 in-map f (b ∷ l) a (inl e) = inl (ap f e)
@@ -84,7 +84,7 @@ module _ (ps : List ℕ) (small : All Small ps) where
   plain-small f h t ht =
       subst Small (value-back f h t ht) (value field (interpolate field inverse (map byte ps) (map (over f) (map byte ps))) (byte t) .1)
 
-  weight-back : (p t : ℕ) → Small p → Small t
+  pub weight-back : (p t : ℕ) → Small p → Small t
       → number (weight field inverse (map byte ps) (byte p) (byte t)) ≡ weight plain.bytes plain.inverse ps p t
   weight-back p t hp ht =
       weight-carried field plain.bytes number number-carries inverse plain.inverse number-inverse (map byte ps) (byte p) (byte t)
@@ -95,6 +95,14 @@ module _ (ps : List ℕ) (small : All Small ps) where
   weights-back t ht =
       map-map number _ (map byte ps) ∙ map-map _ byte ps
       ∙ map-same _ _ ps (all-both (λ p s u. weight-back p t s ht) ps small small)
+
+  coefficient-back : (q t : ℕ) → Small q → Small t
+      → number (coefficient field inverse (map byte ps) (byte q) (byte t)) ≡ coefficient plain.bytes plain.inverse ps q t
+  unfolding coefficient
+  coefficient-back q t hq ht =
+      ap (λ (g : Byte → Byte). number (value field (interpolate field inverse (map byte ps) (map g (map byte ps))) (byte t)))
+      (sym (fun-ext (over-only q hq)))
+      ∙ value-back (only plain.bytes q) (all-both (λ p s u. only-small q p hq s) ps small small) t ht
 
   module _ (d : Distinct ps) where
     -- Lagrange's form on plain numbers
@@ -121,16 +129,20 @@ module _ (ps : List ℕ) (small : All Small ps) where
     -- the coefficients in closed form
     pub plain-coefficient : (q : ℕ) → In q ps → (t : ℕ) → Small t
         → coefficient plain.bytes plain.inverse ps q t ≡ weight plain.bytes plain.inverse ps q t
-    unfolding coefficient
     plain-coefficient q i t ht =
-        sym (value-back (only plain.bytes q) (all-both (λ p s u. only-small q p hq s) ps small small) t ht)
-        ∙ ap (λ (g : Byte → Byte). number (value field (interpolate field inverse (map byte ps) (map g (map byte ps))) (byte t)))
-        (fun-ext (over-only q hq))
+        sym (coefficient-back q t hq ht)
         ∙ ap number (coefficient-weight field laws inverse times-inverse (map byte ps) (different ps small d) (byte q) (in-map byte ps q i) (byte t))
         ∙ weight-back q t hq ht
       where
         hq : Small q
         hq = all-at _ ps small q i
+
+    -- what is none of the points counts nothing
+    pub plain-none : (q : ℕ) → Small q → All (λ p. q ≢ p) ps → (t : ℕ) → Small t → coefficient plain.bytes plain.inverse ps q t ≡ 0
+    plain-none q hq apart t ht =
+        sym (coefficient-back q t hq ht)
+        ∙ ap number (coefficient-none field laws inverse times-inverse (map byte ps) (different ps small d) (byte q)
+        (other-bytes q hq ps small apart) (byte t))
 
   -- a polynomial through ps is known from its values at as many other points
   pub plain-recovered : (qs : List ℕ) → All Small qs → Distinct qs → length ps ≡ length qs → (f : ℕ → ℕ) → All (λ p. Small (f p)) ps

@@ -1,2 +1,4 @@
+pub mod Adding
 pub mod Cutting
 pub mod Joining
+pub mod Weights

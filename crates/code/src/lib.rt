@@ -1,1 +1,100 @@
-// The m-of-n code.
+// The m-of-n code: how long a body is, how much each of the first m bodies counts in a body, and the one inner loop that adds
+// a multiple of a body to a sum. No function asks anything of its caller.
+ghost use mathlib.Core.Path.{_≡_};
+ghost use Prim.Native.Nat.{min};
+ghost use Rattle.algebra.specs.Polynomial as polynomial;
+ghost use Rattle.field.specs.Byte.{bytes, inverse};
+ghost use Rattle.code.specs.Cutting as cutting;
+ghost use Rattle.code.specs.Weights as weights;
+ghost use Rattle.code.specs.Adding as adding;
+
+// F for a block of `length` bytes; 0 where m is 0.
+pub fn body_length(length: u32, m: u8) -> usize
+    ensures { λ r. ⌜ r ≡ cutting.body-length length m ⌝ }
+{
+    if m == 0 {
+        return 0;
+    }
+    let stripe = 3 * wide(m);
+    3 * ((length as usize + (stripe - 1)) / stripe)
+}
+
+// The points of the first 255 bodies, of which a cut into m takes the first m.
+pub fn points() -> [u8; 255]
+    ensures { λ r. ⌜ r ≡ cutting.points 255 ⌝ }
+{
+    let mut out = [0u8; 255];
+    let mut point: u8 = 0;
+    while point < 255 {
+        out[wide(point)] = point;
+        point += 1;
+    }
+    out
+}
+
+// The product of t + q over the points q that are not t.
+pub fn spread(points: &[u8], t: u8) -> u8
+    ensures { λ r. ⌜ r ≡ weights.spread bytes (now (points .entry)) t ⌝ }
+{
+    spread_but(points, t, t)
+}
+
+// How much the value at p counts at t: Lagrange's product over the points.
+pub fn weight(points: &[u8], p: u8, t: u8) -> u8
+    ensures { λ r. ⌜ r ≡ polynomial.weight bytes inverse (now (points .entry)) p t ⌝ }
+{
+    field::quotient(spread_but(points, p, t), spread(points, p))
+}
+
+// How much body j counts in body i; 0 where j is not below m.
+pub fn coefficient(m: u8, i: u8, j: u8) -> u8
+    ensures { λ r. ⌜ r ≡ cutting.coefficient-of m i j ⌝ }
+{
+    if j >= m {
+        return 0;
+    }
+    let all = points();
+    let count = wide(m);
+    weight(&all[..count], j, i)
+}
+
+// Adds `by` times the body to the sum, byte by byte, as far as both go.
+pub fn add_scaled(sum: &mut [u8], body: &[u8], by: u8)
+    ensures { λ r. ⌜ now (sum .exit) ≡ adding.added by (now (sum .entry)) (now (body .entry)) ⌝ }
+{
+    let row = field::row(by);
+    let end = shorter(sum.len(), body.len());
+    let mut k = 0;
+    while k < end {
+        sum[k] = sum[k] ^ row[body[k] as usize];
+        k += 1;
+    }
+}
+
+// The product of t + q over the points q that are not p.
+fn spread_but(points: &[u8], p: u8, t: u8) -> u8
+    ensures { λ r. ⌜ r ≡ weights.spread-but bytes (now (points .entry)) p t ⌝ }
+{
+    let mut product = 1;
+    let mut k = points.len();
+    while k > 0 {
+        k -= 1;
+        let q = points[k];
+        if p != q {
+            product = field::times(field::plus(t, q), product);
+        }
+    }
+    product
+}
+
+fn shorter(a: usize, b: usize) -> usize
+    ensures { λ r. ⌜ r ≡ min a b ⌝ }
+{
+    if a < b { a } else { b }
+}
+
+fn wide(x: u8) -> usize
+    ensures { λ r. ⌜ r ≡ x ⌝ }
+{
+    x as usize
+}

@@ -34,6 +34,11 @@ below-at (suc n) a x h =
           ∙ below-at n a x (omega arith)
     ]
 
+-- what stands at a byte in its row is the product
+pub products-at : (a x : ℕ) → x < 256 → getD (products a) x 0 ≡ times a x
+unfolding products
+products-at = below-at 256
+
 -- a list has the product of a and x at x
 abbrev pub Right : ℕ → List ℕ → ℕ → Type 0
 Right a out x = getD out x 0 ≡ times a x

@@ -1,0 +1,160 @@
+-- A weight is a quotient of spreads: over any field, and on the plain numbers of bytes.
+use mathlib.Core.Path.{_≡_, refl, sym, ap, ap₂, subst, _∙_}
+use mathlib.Core.Logic.{_≢_, inl, inr, ⊎-elim}
+use mathlib.Core.Bool.{Bool, true, false}
+use mathlib.Core.List.{List, [], _∷_, map}
+use Prim.Native.Nat.{ℕ}
+use Rattle.algebra.specs.Carrier.{Carrier, Laws, Inverts}
+use Rattle.algebra.specs.Several.{All, In, Distinct}
+use Rattle.algebra.specs.Polynomial.{weight}
+use Rattle.algebra.proofs.Ring.{ring, same-of-sum, not-same, same-not, unit-product}
+use Rattle.algebra.proofs.Several.{all-at, all-both}
+use Rattle.algebra.proofs.Carried.{Carries}
+use Rattle.algebra.proofs.Lagrange.{factor-same, factor-other}
+use Rattle.field.specs.Byte as plain
+use Rattle.field.proofs.Byte.{field, laws, number, byte, number-byte, inverse, times-inverse, number-carries}
+use Rattle.code.specs.Weights.{spread-but, spread}
+use Rattle.code.proofs.Plain.{Small, there-and-back, other-bytes, different, in-map, weight-back}
+
+-- the two cases of a point: it is the one left out, or another
+module _ {A : Type 0} (K : Carrier A) where
+  pub but-same : (q : A) (qs : List A) (p t : A) → K .same p q ≡ true → spread-but K (q ∷ qs) p t ≡ spread-but K qs p t
+  unfolding spread-but
+  but-same q qs p t e = rw (e, spread-but)
+
+  pub but-other : (q : A) (qs : List A) (p t : A) → K .same p q ≡ false
+      → spread-but K (q ∷ qs) p t ≡ K .times (K .plus t q) (spread-but K qs p t)
+  unfolding spread-but
+  but-other q qs p t e = rw (e, spread-but)
+
+module _ {A B : Type 0} (K : Carrier A) (J : Carrier B) (h : A → B) (H : Carries K J h) where
+  but-carried : (ps : List A) (p t : A) → h (spread-but K ps p t) ≡ spread-but J (map h ps) (h p) (h t)
+  unfolding spread-but
+  but-carried [] p t = H .unit
+  but-carried (q ∷ ps) p t = go (K .same p q) refl (but-carried ps p t)
+    where
+      go : (s : Bool) → K .same p q ≡ s → h (spread-but K ps p t) ≡ spread-but J (map h ps) (h p) (h t)
+          → h (spread-but K (q ∷ ps) p t) ≡ spread-but J (map h (q ∷ ps)) (h p) (h t)
+      go true e rest =
+          ap h (but-same K q ps p t e) ∙ rest ∙ sym (but-same J (h q) (map h ps) (h p) (h t) (H .same p q ∙ e))
+      go false e rest =
+          ap h (but-other K q ps p t e) ∙ H .times (K .plus t q) (spread-but K ps p t)
+          ∙ ap₂ (J .times) (H .plus t q) rest
+          ∙ sym (but-other J (h q) (map h ps) (h p) (h t) (H .same p q ∙ e))
+
+module _ {A : Type 0} (K : Carrier A) (L : Laws K) where
+  open Carrier K using (none, unit, plus as _⊕_, times as _⊗_, same)
+
+  infixl 60 _⊕_
+  infixl 70 _⊗_
+  -- where neither is among the points, nothing is left out
+  but-neither : (ps : List A) (p t : A) → All (λ q. p ≢ q) ps → All (λ q. t ≢ q) ps → spread-but K ps p t ≡ spread K ps t
+  unfolding spread-but spread
+  but-neither [] p t hp ht = refl
+  but-neither (q ∷ ps) p t hp ht =
+      but-other K q ps p t (same-not K L p q (hp .0))
+      ∙ ap (λ (x : A). (t ⊕ q) ⊗ x) (but-neither ps p t (hp .1) (ht .1))
+      ∙ sym (but-other K q ps t t (same-not K L t q (ht .0)))
+
+  swapped : (a b c : A) → a ⊗ (b ⊗ c) ≡ b ⊗ (a ⊗ c)
+  swapped a b c = simp (ring, L)
+
+  -- what was left out of the spread, put back
+  but-back : (ps : List A) (p t : A) → Distinct ps → In p ps → All (λ q. t ≢ q) ps → (t ⊕ p) ⊗ spread-but K ps p t ≡ spread K ps t
+  unfolding spread
+  but-back (q ∷ ps) p t d (inl e) ht =
+      ap₂ (λ (x y : A). (t ⊕ x) ⊗ y) e
+      (but-same K q ps p t (ap (same p) (sym e) ∙ L .same-self p)
+      ∙ but-neither ps p t (all-both (λ r n m. λ z. n (sym e ∙ z)) ps (d .0) (d .0)) (ht .1))
+      ∙ sym (but-other K q ps t t (same-not K L t q (ht .0)))
+  but-back (q ∷ ps) p t d (inr i) ht =
+      ap (λ (x : A). (t ⊕ p) ⊗ x) (but-other K q ps p t (same-not K L p q (λ z. all-at _ ps (d .0) p i (sym z))))
+      ∙ swapped (t ⊕ p) (t ⊕ q) (spread-but K ps p t)
+      ∙ ap (λ (x : A). (t ⊕ q) ⊗ x) (but-back ps p t (d .1) i (ht .1))
+      ∙ sym (but-other K q ps t t (same-not K L t q (ht .0)))
+
+  product-some : (a b : A) → a ≢ none → b ≢ none → a ⊗ b ≢ none
+  product-some a b ha hb e = ⊎-elim ha hb (L .no-zero-divisors a b e)
+
+  sum-some : (a b : A) → a ≢ b → a ⊕ b ≢ none
+  sum-some a b ne e = ne (same-of-sum K L a b e)
+
+  -- a spread is not zero
+  spread-some : (ps : List A) (p : A) → spread K ps p ≢ none
+  unfolding spread spread-but
+  spread-some [] p = L .unit-not-none
+  spread-some (q ∷ ps) p = go (same p q) refl (spread-some ps p)
+    where
+      go : (s : Bool) → same p q ≡ s → spread K ps p ≢ none → spread K (q ∷ ps) p ≢ none
+      go true e rest = subst (λ (x : A). x ≢ none) (sym (but-same K q ps p p e)) rest
+      go false e rest =
+          subst (λ (x : A). x ≢ none) (sym (but-other K q ps p p e))
+          (product-some (p ⊕ q) (spread K ps p) (sum-some p q (not-same K L p q e)) rest)
+
+  module _ (inverse : A → A) (inv : Inverts K inverse) where
+    regroup : (a i w d s : A) → (a ⊗ i ⊗ w) ⊗ (d ⊗ s) ≡ d ⊗ i ⊗ (a ⊗ (w ⊗ s))
+    regroup a i w d s = simp (ring, L)
+
+    -- a weight's denominators, multiplied back in
+    weight-spread : (ps : List A) (p t : A) → weight K inverse ps p t ⊗ spread K ps p ≡ spread-but K ps p t
+    unfolding weight spread spread-but
+    weight-spread [] p t = unit-product K L unit
+    weight-spread (q ∷ ps) p t = go (same p q) refl (weight-spread ps p t)
+      where
+        go : (s : Bool) → same p q ≡ s → weight K inverse ps p t ⊗ spread K ps p ≡ spread-but K ps p t
+            → weight K inverse (q ∷ ps) p t ⊗ spread K (q ∷ ps) p ≡ spread-but K (q ∷ ps) p t
+        go true e rest =
+            ap₂ (λ (x y : A). x ⊗ weight K inverse ps p t ⊗ y) (factor-same K inverse p t q e) (but-same K q ps p p e)
+            ∙ ap (λ (x : A). x ⊗ spread K ps p) (unit-product K L _) ∙ rest ∙ sym (but-same K q ps p t e)
+        go false e rest =
+            ap₂ (λ (x y : A). x ⊗ weight K inverse ps p t ⊗ y) (factor-other K inverse p t q e) (but-other K q ps p p e)
+            ∙ regroup (t ⊕ q) (inverse (p ⊕ q)) (weight K inverse ps p t) (p ⊕ q) (spread K ps p)
+            ∙ ap₂ (λ (x y : A). x ⊗ ((t ⊕ q) ⊗ y)) (inv (p ⊕ q) (sum-some p q (not-same K L p q e))) rest
+            ∙ unit-product K L _ ∙ sym (but-other K q ps p t e)
+
+    divided : (a b c : A) → b ≢ none → a ⊗ b ≡ c → a ≡ c ⊗ inverse b
+    divided a b c h e =
+        sym (L .times-unit a) ∙ ap (λ (x : A). a ⊗ x) (sym (inv b h)) ∙ sym (L .times-assoc a b (inverse b))
+        ∙ ap (λ (x : A). x ⊗ inverse b) e
+
+    -- for any points
+    weight-quotient : (ps : List A) (p t : A) → weight K inverse ps p t ≡ spread-but K ps p t ⊗ inverse (spread K ps p)
+    weight-quotient ps p t = divided _ _ _ (spread-some ps p) (weight-spread ps p t)
+
+    -- for different points, p among them and t not
+    weight-spreads : (ps : List A) (p t : A) → Distinct ps → In p ps → All (λ q. t ≢ q) ps
+        → weight K inverse ps p t ≡ spread K ps t ⊗ inverse ((t ⊕ p) ⊗ spread K ps p)
+    weight-spreads ps p t d i ht =
+        divided _ _ _ (product-some (t ⊕ p) (spread K ps p) (sum-some t p (all-at _ ps ht p i)) (spread-some ps p))
+        (swapped _ (t ⊕ p) (spread K ps p) ∙ ap (λ (x : A). (t ⊕ p) ⊗ x) (weight-spread ps p t) ∙ but-back ps p t d i ht)
+
+module _ (ps : List ℕ) (small : All Small ps) where
+  number-but : (p t : ℕ) → Small p → Small t
+      → number (spread-but field (map byte ps) (byte p) (byte t)) ≡ spread-but plain.bytes ps p t
+  number-but p t hp ht =
+      but-carried field plain.bytes number number-carries (map byte ps) (byte p) (byte t)
+      ∙ (λ i. spread-but plain.bytes (there-and-back ps small i) (number-byte p hp i) (number-byte t ht i))
+
+  -- the weights of plain numbers below 256
+  pub plain-quotient : (p t : ℕ) → Small p → Small t
+      → weight plain.bytes plain.inverse ps p t ≡ plain.times (spread-but plain.bytes ps p t) (plain.inverse (spread plain.bytes ps p))
+  unfolding spread
+  plain-quotient p t hp ht =
+      sym (weight-back ps small p t hp ht)
+      ∙ ap number (weight-quotient field laws inverse times-inverse (map byte ps) (byte p) (byte t))
+      ∙ ap₂ (λ (x y : ℕ). plain.times x (plain.inverse y)) (number-but p t hp ht) (number-but p p hp hp)
+
+  -- a cut needs one spread for each point of the block's own bodies, and one for each further body
+  pub plain-spreads : (p t : ℕ) → Small t → Distinct ps → In p ps → All (λ q. t ≢ q) ps
+      → weight plain.bytes plain.inverse ps p t
+      ≡ plain.times (spread plain.bytes ps t) (plain.inverse (plain.times (plain.plus t p) (spread plain.bytes ps p)))
+  unfolding spread
+  plain-spreads p t ht d i apart =
+      sym (weight-back ps small p t hp ht)
+      ∙ ap number (weight-spreads field laws inverse times-inverse (map byte ps) (byte p) (byte t)
+      (different ps small d) (in-map byte ps p i) (other-bytes t ht ps small apart))
+      ∙ (λ j. plain.times (number-but t t ht ht j)
+      (plain.inverse (plain.times (plain.plus (number-byte t ht j) (number-byte p hp j)) (number-but p p hp hp j))))
+    where
+      hp : Small p
+      hp = all-at _ ps small p i
