@@ -1,0 +1,4 @@
+pub mod Scheduling
+pub mod Ending
+pub mod Pieces
+pub mod Known

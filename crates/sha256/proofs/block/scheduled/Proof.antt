@@ -1,0 +1,94 @@
+use borrow.Author.Needs.{needs}
+use Rattle.sha256.proofs.block.scheduled.Statement.{statement}
+use Rattle.sha256.proofs.block.scheduled.Tie as tie
+use Rattle.sha256.proofs.block.scheduled.Reads as reads
+use Rattle.sha256.proofs.block.scheduled.Lts as lts
+use Rattle.sha256.proofs.word.lower_sigma_0.Reads as lower-sigma-0-reads
+use Rattle.sha256.proofs.word.lower_sigma_1.Reads as lower-sigma-1-reads
+use Rattle.sha256.proofs.word.word.Reads as word-reads
+use Rattle.std.proofs.num.wrapping_add_u32.Reads as wrapping-add-u32-reads
+
+mul-word : tie.Need-mul-word
+mul-word c = search needs
+
+word-requires : tie.Need-word-requires
+word-requires c κs = search needs
+
+returns : tie.Need-returns
+returns c = search needs
+
+sub-lower-sigma-1 : tie.Need-sub-lower-sigma-1
+sub-lower-sigma-1 c = search needs
+
+mul-lower-sigma-1 : tie.Need-mul-lower-sigma-1
+mul-lower-sigma-1 c = search needs
+
+element-copy-out-lower-sigma-1 : tie.Need-element-copy-out-lower-sigma-1
+element-copy-out-lower-sigma-1 c = search needs
+
+lower-sigma-1-requires : tie.Need-lower-sigma-1-requires
+lower-sigma-1-requires c κs = search needs
+
+sub-wrapping-add-u32 : tie.Need-sub-wrapping-add-u32
+sub-wrapping-add-u32 c = search needs
+
+mul-wrapping-add-u32 : tie.Need-mul-wrapping-add-u32
+mul-wrapping-add-u32 c = search needs
+
+element-copy-out-wrapping-add-u32 : tie.Need-element-copy-out-wrapping-add-u32
+element-copy-out-wrapping-add-u32 c = search needs
+
+wrapping-add-u32-requires : tie.Need-wrapping-add-u32-requires
+wrapping-add-u32-requires c κs = search needs
+
+sub-lower-sigma-0 : tie.Need-sub-lower-sigma-0
+sub-lower-sigma-0 c = search needs
+
+mul-lower-sigma-0 : tie.Need-mul-lower-sigma-0
+mul-lower-sigma-0 c = search needs
+
+element-copy-out-lower-sigma-0 : tie.Need-element-copy-out-lower-sigma-0
+element-copy-out-lower-sigma-0 c = search needs
+
+lower-sigma-0-requires : tie.Need-lower-sigma-0-requires
+lower-sigma-0-requires c κs = search needs
+
+wrapping-add-u32-requires-2 : tie.Need-wrapping-add-u32-requires-2
+wrapping-add-u32-requires-2 c κs = search needs
+
+mul-wrapping-add-u32-2 : tie.Need-mul-wrapping-add-u32-2
+mul-wrapping-add-u32-2 c = search needs
+
+element-copy-out-wrapping-add-u32-2 : tie.Need-element-copy-out-wrapping-add-u32-2
+element-copy-out-wrapping-add-u32-2 c = search needs
+
+wrapping-add-u32-requires-3 : tie.Need-wrapping-add-u32-requires-3
+wrapping-add-u32-requires-3 c κs = search needs
+
+returns-2 : tie.Need-returns-2
+returns-2 c = search needs
+
+pub scheduled-spec : {M : Type 1} → statement M
+scheduled-spec =
+    tie.close
+    (tie.spec
+    mul-word
+    word-requires
+    returns
+    sub-lower-sigma-1
+    mul-lower-sigma-1
+    element-copy-out-lower-sigma-1
+    lower-sigma-1-requires
+    sub-wrapping-add-u32
+    mul-wrapping-add-u32
+    element-copy-out-wrapping-add-u32
+    wrapping-add-u32-requires
+    sub-lower-sigma-0
+    mul-lower-sigma-0
+    element-copy-out-lower-sigma-0
+    lower-sigma-0-requires
+    wrapping-add-u32-requires-2
+    mul-wrapping-add-u32-2
+    element-copy-out-wrapping-add-u32-2
+    wrapping-add-u32-requires-3
+    returns-2)

@@ -1,0 +1,99 @@
+// SHA-256 (FIPS 180-4). `sha256` hashes a body; `start`, `step` and `finish` hash bytes that come in pieces: any number
+// of blocks of 64 bytes, and then the rest. The definitions stand in specs/, in the standard's order and by its names.
+mod block;
+mod tail;
+mod word;
+
+ghost use mathlib.Core.Path.{_≡_};
+ghost use Rattle.sha256.specs.Fips180.{H⁰, Hᴺ, next as Fips·next};
+ghost use Rattle.sha256.specs.Hash.{finished, answered};
+use block::next;
+use tail::digest;
+use tail::fill;
+
+// A hash value: eight words, H0 to H7 of the standard, and its working variables in the turns of a block.
+pub struct State {
+    pub a: u32,
+    pub b: u32,
+    pub c: u32,
+    pub d: u32,
+    pub e: u32,
+    pub f: u32,
+    pub g: u32,
+    pub h: u32,
+}
+
+// 0 with the digest of a body, or the number of a refusal with zero bytes.
+pub struct Hashed {
+    pub number: u32,
+    pub digest: [u8; 32],
+}
+
+// The most bytes that a body to be hashed may have.
+const LONGEST: usize = 65538;
+
+// The digest of a body of at most 65,538 bytes; any longer one is refused by 2.
+pub fn sha256(body: &[u8]) -> Hashed
+    ensures { λ r. ⌜ r ≡ answered (now (body .entry)) ⌝ }
+{
+    if LONGEST < body.len() {
+        return Hashed {
+            number: 2,
+            digest: [0; 32],
+        };
+    }
+    let digest = finish(start(), 0, body);
+    Hashed { number: 0, digest }
+}
+
+// The hash value of no block.
+pub fn start() -> State
+    ensures { λ r. ⌜ r ≡ H⁰ ⌝ }
+{
+    State {
+        a: 0x6a09e667,
+        b: 0xbb67ae85,
+        c: 0x3c6ef372,
+        d: 0xa54ff53a,
+        e: 0x510e527f,
+        f: 0x9b05688c,
+        g: 0x1f83d9ab,
+        h: 0x5be0cd19,
+    }
+}
+
+// The hash value after one block more.
+pub fn step(s: State, block: &[u8; 64]) -> State
+    ensures { λ r. ⌜ r ≡ Fips·next s (now (block .entry)) ⌝ }
+{
+    next(s, block)
+}
+
+// The digest of a message whose first blocks, so many, led to s, and whose other bytes are rest.
+pub fn finish(s: State, blocks: u32, rest: &[u8]) -> [u8; 32]
+    ensures { λ r. ⌜ r ≡ finished s blocks (now (rest .entry)) ⌝ }
+{
+    let l = (blocks as u64) * 64 + rest.len() as u64;
+    let whole = rest.len() / 64 * 64;
+    let end = &rest[whole..];
+    let n = if end.len() < 56 { 64 } else { 128 };
+    let mut last = [0u8; 128];
+    fill(&mut last[..n], end, l);
+    digest(absorb(absorb(s, rest), &last[..n]))
+}
+
+// The hash value after the whole blocks of m, which are read where they lie; what is left past them is not looked at.
+fn absorb(s: State, m: &[u8]) -> State
+    ensures { λ r. ⌜ r ≡ Hᴺ s (now (m .entry)) ⌝ }
+{
+    let n = m.len() / 64;
+    let mut v = s;
+    let mut i = 0;
+    while i < n {
+        let at = 64 * i;
+        let e = at + 64;
+        v = next(v, &m[at..e]);
+        i += 1;
+    }
+    v
+}
