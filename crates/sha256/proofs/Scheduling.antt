@@ -33,7 +33,7 @@ before m w t = go (ltb t 16) refl
         let h : 16 ≤ t = ltb-false t 16 e in
         late m w t h
         ∙ sym (late m (take t w) t h
-          ∙ cc (getD-take t w (t - 2) 0 (omega arith), getD-take t w (t - 7) 0 (omega arith), getD-take t w (t - 15) 0 (omega arith), getD-take t w (t - 16) 0 (omega arith)))
+        ∙ cc (getD-take t w (t - 2) 0 (omega arith), getD-take t w (t - 7) 0 (omega arith), getD-take t w (t - 15) 0 (omega arith), getD-take t w (t - 16) 0 (omega arith)))
 
 -- where the first t words are made, storing word t makes the first t + 1
 pub stored : (m w : List ℕ) (t x : ℕ) → t < length w → take t w ≡ W t m → x ≡ Wₜ m w t → take (t + 1) (set w t x) ≡ W (t + 1) m

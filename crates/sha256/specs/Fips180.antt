@@ -75,8 +75,15 @@ block m i = take 64 (drop (64 * i) m)
 -- 5.3.3: the initial hash value. H0 to H7 are the fields a to h, as they are when a round begins
 unfoldable pub H⁰ : State
 H⁰ = record {
-    a = 0x6a09e667; b = 0xbb67ae85; c = 0x3c6ef372; d = 0xa54ff53a;
-    e = 0x510e527f; f = 0x9b05688c; g = 0x1f83d9ab; h = 0x5be0cd19 }
+  a = 0x6a09e667;
+  b = 0xbb67ae85;
+  c = 0x3c6ef372;
+  d = 0xa54ff53a;
+  e = 0x510e527f;
+  f = 0x9b05688c;
+  g = 0x1f83d9ab;
+  h = 0x5be0cd19;
+}
 
 -- 6.2.2, step 1: word t of the message schedule, from the block m and the words before it; and the first t words
 unfoldable pub Wₜ : List ℕ → List ℕ → ℕ → ℕ
@@ -94,8 +101,15 @@ turn v k w =
     let T₁ = v .h ⊞ Σ₁ (v .e) ⊞ Ch (v .e) (v .f) (v .g) ⊞ k ⊞ w in
     let T₂ = Σ₀ (v .a) ⊞ Maj (v .a) (v .b) (v .c) in
     record {
-      a = T₁ ⊞ T₂; b = v .a; c = v .b; d = v .c;
-      e = v .d ⊞ T₁; f = v .e; g = v .f; h = v .g }
+      a = T₁ ⊞ T₂;
+      b = v .a;
+      c = v .b;
+      d = v .c;
+      e = v .d ⊞ T₁;
+      f = v .e;
+      g = v .f;
+      h = v .g;
+    }
 
 unfoldable pub turns : ℕ → List ℕ → State → State
 turns zero w v = v
@@ -106,8 +120,15 @@ unfoldable pub next : State → List ℕ → State
 next s m =
     let v = turns 64 (W 64 m) s in
     record {
-      a = v .a ⊞ s .a; b = v .b ⊞ s .b; c = v .c ⊞ s .c; d = v .d ⊞ s .d;
-      e = v .e ⊞ s .e; f = v .f ⊞ s .f; g = v .g ⊞ s .g; h = v .h ⊞ s .h }
+      a = v .a ⊞ s .a;
+      b = v .b ⊞ s .b;
+      c = v .c ⊞ s .c;
+      d = v .d ⊞ s .d;
+      e = v .e ⊞ s .e;
+      f = v .f ⊞ s .f;
+      g = v .g ⊞ s .g;
+      h = v .h ⊞ s .h;
+    }
 
 -- 6.2.2: the hash value after the first i blocks of m, from s; and after all of them
 unfoldable pub Hⁱ : ℕ → State → List ℕ → State

@@ -9,6 +9,7 @@ ghost use Rattle.sha256.specs.Fips180.{H⁰, Hᴺ, next as Fips·next};
 ghost use Rattle.sha256.specs.Hash.{finished, answered};
 use block::next;
 use tail::digest;
+use tail::end_len;
 use tail::fill;
 
 // A hash value: eight words, H0 to H7 of the standard, and its working variables in the turns of a block.
@@ -76,7 +77,7 @@ pub fn finish(s: State, blocks: u32, rest: &[u8]) -> [u8; 32]
     let l = (blocks as u64) * 64 + rest.len() as u64;
     let whole = rest.len() / 64 * 64;
     let end = &rest[whole..];
-    let n = if end.len() < 56 { 64 } else { 128 };
+    let n = end_len(end, l);
     let mut last = [0u8; 128];
     fill(&mut last[..n], end, l);
     digest(absorb(absorb(s, rest), &last[..n]))

@@ -1,10 +1,19 @@
 // The end of a message: what is left past its whole blocks, with the padding after it (FIPS 180-4, 5.1.1), and the digest.
 ghost use mathlib.Core.Path.{_≡_};
-ghost use Prim.Native.Nat.{_<_, _*_, _%_};
+ghost use Prim.Native.Nat.{_<_, _≤_, _*_, _%_};
 ghost use mathlib.Core.List.{_++_};
 ghost use lib.ListN.{length, getD};
 ghost use Rattle.sha256.specs.Fips180.{bytes, padding, digest as Fips·digest};
 use crate::State;
+
+// How many bytes rest and the padding of a message of l bytes are: one block, or two where the first has no room for the length.
+pub(crate) fn end_len(rest: &[u8], l: u64) -> usize
+    requires { ⌜ length (now rest) ≡ l % 64 ⌝ }
+    ensures { λ r. ⌜ r ≡ length (now (rest .entry) ++ padding l) ⌝ }
+    ensures { λ r. ⌜ r ≤ 128 ⌝ }
+{
+    if rest.len() < 56 { 64 } else { 128 }
+}
 
 // Fills out with rest and the padding of a message of l bytes.
 pub(crate) fn fill(out: &mut [u8], rest: &[u8], l: u64)

@@ -1,12 +1,10 @@
+-- `sha256::block::scheduled` meets its contract: by the two cases of the definition. Assumes nothing.
 use borrow.Author.Needs.{needs}
+use mathlib.Core.Path.{sym, _∙_}
+use native.Mathlib.Omega.{arith}
+use Rattle.sha256.proofs.Scheduling.{early, late}
 use Rattle.sha256.proofs.block.scheduled.Statement.{statement}
 use Rattle.sha256.proofs.block.scheduled.Tie as tie
-use Rattle.sha256.proofs.block.scheduled.Reads as reads
-use Rattle.sha256.proofs.block.scheduled.Lts as lts
-use Rattle.sha256.proofs.word.lower_sigma_0.Reads as lower-sigma-0-reads
-use Rattle.sha256.proofs.word.lower_sigma_1.Reads as lower-sigma-1-reads
-use Rattle.sha256.proofs.word.word.Reads as word-reads
-use Rattle.std.proofs.num.wrapping_add_u32.Reads as wrapping-add-u32-reads
 
 mul-word : tie.Need-mul-word
 mul-word c = search needs
@@ -15,7 +13,9 @@ word-requires : tie.Need-word-requires
 word-requires c κs = search needs
 
 returns : tie.Need-returns
-returns c = search needs
+returns c =
+    let s = c .before .before .before in
+    c .word .ensures ∙ sym (early (s .args .m .now) (s .args .w .now) (s .args .t) (c .before .if1 .taken))
 
 sub-lower-sigma-1 : tie.Need-sub-lower-sigma-1
 sub-lower-sigma-1 c = search needs
@@ -66,7 +66,9 @@ wrapping-add-u32-requires-3 : tie.Need-wrapping-add-u32-requires-3
 wrapping-add-u32-requires-3 c κs = search needs
 
 returns-2 : tie.Need-returns-2
-returns-2 c = search needs
+returns-2 c =
+    let s = c .before .before .before .before .before .before .before .before .before .before .before in
+    cc (late (s .args .m .now) (s .args .w .now) (s .args .t) (c .before .before .before .before .before .before .before .before .before .if1 .left))
 
 pub scheduled-spec : {M : Type 1} → statement M
 scheduled-spec =
