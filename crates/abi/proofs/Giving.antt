@@ -24,6 +24,7 @@ other number n result buffer e h = (simp (eq-eqb number 0 e, ne-eqb (length buff
 pub put : (number : ℕ) (result buffer : List ℕ) → number ≡ 0 → length buffer ≡ length result
     → (0 ≡ numbered number (length result) buffer) × (take (length result) result ++ drop (length result) buffer ≡ held 0 result buffer)
 unfolding numbered held
-put number result buffer e h =
-    (simp (eq-eqb number 0 e, eq-eqb (length buffer) (length result) h),
-     ap₂ _++_ (take-length result) (drop-of-length-le buffer {i = length result} (omega arith)) ∙ simp mathlib.Core.List.append-nil)
+put number result buffer e h = (
+  simp (eq-eqb number 0 e, eq-eqb (length buffer) (length result) h),
+  ap₂ _++_ (take-length result) (drop-of-length-le buffer {i = length result} (omega arith)) ∙ simp mathlib.Core.List.append-nil,
+)

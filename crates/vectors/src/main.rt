@@ -6,7 +6,7 @@ ghost use mathlib.Core.Path.{_≡_};
 ghost use lib.ListN.{length};
 use libc::STDOUT_FILENO;
 use std::num::wrapping_add_u64;
-use text::line_length;
+use text::line_end;
 use text::number;
 use text::starts;
 use text::unhex;
@@ -51,32 +51,32 @@ fn read_cases(file: &[u8], message: &mut [u8]) -> Tally {
     };
     let mut at = 0;
     while at < file.len() {
-        let line = &file[at..];
-        tally = read_line(line, message, tally);
-        at += line_length(line);
+        let rest = &file[at..];
+        let n = line_end(rest);
+        tally = read_line(&rest[..n], message, tally);
+        at += n + 1;
     }
     tally
 }
 
 // One line of a case: its length in bits, its message, or its digest, which ends it.
 fn read_line(line: &[u8], message: &mut [u8], tally: Tally) -> Tally {
-    if starts(line, b"Len = ") {
-        return begin(line, message, tally);
+    let k = starts(line, b"Len = ");
+    if 0 < k {
+        return begin(&line[k..], message, tally);
     }
     let length = tally.length;
     if message.len() < length {
         return tally;
     }
-    if starts(line, b"Msg = ") {
-        unhex(&line[6..], &mut message[..length]);
+    let k = starts(line, b"Msg = ");
+    if 0 < k {
+        unhex(&line[k..], &mut message[..length]);
         return tally;
     }
-    if starts(line, b"MD = ") {
-        return Tally {
-            length,
-            agreed: wrapping_add_u64(tally.agreed, agrees(&message[..length], &line[5..])),
-            cases: wrapping_add_u64(tally.cases, 1),
-        };
+    let k = starts(line, b"MD = ");
+    if 0 < k {
+        return end(&line[k..], &message[..length], tally);
     }
     tally
 }
@@ -85,9 +85,26 @@ fn read_line(line: &[u8], message: &mut [u8], tally: Tally) -> Tally {
 fn begin(line: &[u8], message: &mut [u8], tally: Tally) -> Tally {
     count_up(message);
     Tally {
-        length: number(&line[6..]) / 8,
+        length: number(line) / 8,
         agreed: tally.agreed,
         cases: tally.cases,
+    }
+}
+
+// A case ends: it is counted, and it agrees where the message has the digest that stands in the line.
+fn end(line: &[u8], message: &[u8], tally: Tally) -> Tally {
+    let cases = wrapping_add_u64(tally.cases, 1);
+    if agrees(message, line) {
+        return Tally {
+            length: 0,
+            agreed: wrapping_add_u64(tally.agreed, 1),
+            cases,
+        };
+    }
+    Tally {
+        length: 0,
+        agreed: tally.agreed,
+        cases,
     }
 }
 
@@ -99,16 +116,15 @@ fn count_up(message: &mut [u8]) {
     }
 }
 
-// 1 where the message has the digest that stands in the line, else 0.
-fn agrees(message: &[u8], line: &[u8]) -> u64 {
+fn agrees(message: &[u8], line: &[u8]) -> bool {
     let mut wanted = [0u8; 32];
     unhex(line, &mut wanted);
     let hashed = sha256::sha256(message);
-    let digest = hashed.digest;
-    if hashed.number == 0 {
-        return check::same(&digest, &wanted) as u64;
+    if hashed.number != 0 {
+        return false;
     }
-    0
+    let digest = hashed.digest;
+    check::same(&digest, &wanted)
 }
 
 fn room_for_file() -> [u8; 500000]

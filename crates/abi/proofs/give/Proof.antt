@@ -8,12 +8,12 @@ use Rattle.abi.proofs.give.Statement.{statement}
 use Rattle.abi.proofs.give.Tie as tie
 
 returns : tie.Need-returns
-returns c = 
+returns c =
     let a = c .before .before .before .args in
     refused (a .number) (length (a .result .now)) (a .result .now) (a .buffer .now) (c .if1 .taken)
 
 returns-2 : tie.Need-returns-2
-returns-2 c = 
+returns-2 c =
     let a = c .before .before .before .before .args in
     other (a .number) (length (a .result .now)) (a .result .now) (a .buffer .now) (c .before .if1 .left) (c .if2 .taken)
 
@@ -24,7 +24,7 @@ same-length : tie.Need-same-length
 same-length c = search needs
 
 returns-3 : tie.Need-returns-3
-returns-3 c = 
+returns-3 c =
     let a = c .before .before .before .before .before .before .before .before .args in
     let whole = put (a .number) (a .result .now) (a .buffer .now) (c .before .before .before .before .before .if1 .left) (c .before .before .before .before .if2 .left) in
     (whole .0, c .before .before .copy .ensures .1 ∙ whole .1)

@@ -23,14 +23,15 @@ same-length : tie.Need-same-length
 same-length c = search needs
 
 returns : tie.Need-returns
-returns c = 
+returns c =
     let g = c .before .before .give in
     let h = c .before .before .before .before .before .before .sha256 in
     let m : List ℕ = c .before .before .before .before .before .before .before .before .before .args .body .now in
-    let b : List ℕ = c .before .before .before .before .before .before .before .before .before .args .digest .now in
-    (g .ensures .0
-     ∙ ap₂ (λ (x : Hashed) (n : ℕ). numbered (x .number) n b) (h .ensures) (ap (λ (x : Hashed). length (x .digest)) (h .ensures) ∙ length-answered m),
-     g .ensures .1 ∙ ap (λ (x : Hashed). held (g .result) (x .digest) b) (h .ensures))
+    let b : List ℕ = c .before .before .before .before .before .before .before .before .before .args .digest .now in (
+      g .ensures .0
+          ∙ ap₂ (λ (x : Hashed) (n : ℕ). numbered (x .number) n b) (h .ensures) (ap (λ (x : Hashed). length (x .digest)) (h .ensures) ∙ length-answered m),
+      g .ensures .1 ∙ ap (λ (x : Hashed). held (g .result) (x .digest) b) (h .ensures),
+    )
 
 pub rwk-sha256-spec : {M : Type 1} → statement M
 rwk-sha256-spec =
