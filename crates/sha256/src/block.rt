@@ -1,8 +1,8 @@
-// One block of 64 bytes: its schedule of words and its 64 turns (FIPS 180-4, 6.2.2).
+// The hash value after blocks of 64 bytes: the schedule of words and the 64 turns of each (FIPS 180-4, 6.2.2).
 ghost use mathlib.Core.Path.{_≡_};
-ghost use Prim.Native.Nat.{_<_};
+ghost use Prim.Native.Nat.{_+_, _<_, _≤_};
 ghost use lib.ListN.{length};
-ghost use Rattle.sha256.specs.Fips180.{Wₜ, turn as Fips·turn, next as Fips·next};
+ghost use Rattle.sha256.specs.Fips180.{word, Wₜ, turn as Fips·turn, next as Fips·next, Hᴺ};
 use crate::State;
 use crate::word::ch;
 use crate::word::lower_sigma_0;
@@ -10,7 +10,6 @@ use crate::word::lower_sigma_1;
 use crate::word::maj;
 use crate::word::upper_sigma_0;
 use crate::word::upper_sigma_1;
-use crate::word::word;
 use std::num::wrapping_add_u32;
 
 const K: [u32; 64] = [
@@ -80,8 +79,31 @@ const K: [u32; 64] = [
     0xc67178f2,
 ];
 
+// The hash value after one block more.
+pub fn step(s: State, block: &[u8; 64]) -> State
+    ensures { λ r. ⌜ r ≡ Fips·next s (now (block .entry)) ⌝ }
+{
+    next(s, block)
+}
+
+// The hash value after the whole blocks of m, which are read where they lie; what is left past them is not looked at.
+pub(crate) fn absorb(s: State, m: &[u8]) -> State
+    ensures { λ r. ⌜ r ≡ Hᴺ s (now (m .entry)) ⌝ }
+{
+    let n = m.len() / 64;
+    let mut v = s;
+    let mut i = 0;
+    while i < n {
+        let at = 64 * i;
+        let e = at + 64;
+        v = next(v, &m[at..e]);
+        i += 1;
+    }
+    v
+}
+
 // The hash value after s and one block. Each word of the schedule is made in the turn that needs it.
-pub(crate) fn next(s: State, m: &[u8]) -> State
+fn next(s: State, m: &[u8]) -> State
     requires { ⌜ length (now m) ≡ 64 ⌝ }
     ensures { λ r. ⌜ r ≡ Fips·next s (now (m .entry)) ⌝ }
 {
@@ -112,7 +134,7 @@ fn scheduled(m: &[u8], w: &[u32; 64], t: usize) -> u32
     ensures { λ r. ⌜ r ≡ Wₜ (now (m .entry)) (now (w .entry)) t ⌝ }
 {
     if t < 16 {
-        return word(m, 4 * t);
+        return word_at(m, 4 * t);
     }
     let x = wrapping_add_u32(lower_sigma_1(w[t - 2]), w[t - 7]);
     let y = wrapping_add_u32(x, lower_sigma_0(w[t - 15]));
@@ -137,4 +159,19 @@ fn turn(v: State, k: u32, w: u32) -> State
         g: v.f,
         h: v.g,
     }
+}
+
+// The word that the four bytes from place i on make, the first the most significant.
+fn word_at(m: &[u8], i: usize) -> u32
+    requires { ⌜ i + 4 ≤ length (now m) ⌝ }
+    ensures { λ r. ⌜ r ≡ word (now (m .entry)) i ⌝ }
+{
+    wide(m[i]) * 0x100_0000 + wide(m[i + 1]) * 0x1_0000 + wide(m[i + 2]) * 0x100 + wide(m[i + 3])
+}
+
+fn wide(x: u8) -> u32
+    ensures { λ r. ⌜ r ≡ x ⌝ }
+    ensures { λ r. ⌜ r < 256 ⌝ }
+{
+    x as u32
 }

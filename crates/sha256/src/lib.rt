@@ -5,12 +5,10 @@ mod tail;
 mod word;
 
 ghost use mathlib.Core.Path.{_≡_};
-ghost use Rattle.sha256.specs.Fips180.{H⁰, Hᴺ, next as Fips·next};
-ghost use Rattle.sha256.specs.Hash.{finished, answered};
-use block::next;
-use tail::digest;
-use tail::end_len;
-use tail::fill;
+ghost use Rattle.sha256.specs.Fips180.{H⁰};
+ghost use Rattle.sha256.specs.Hash.{answered};
+pub use block::step;
+pub use tail::finish;
 
 // A hash value: eight words, H0 to H7 of the standard, and its working variables in the turns of a block.
 pub struct State {
@@ -61,40 +59,4 @@ pub fn start() -> State
         g: 0x1f83d9ab,
         h: 0x5be0cd19,
     }
-}
-
-// The hash value after one block more.
-pub fn step(s: State, block: &[u8; 64]) -> State
-    ensures { λ r. ⌜ r ≡ Fips·next s (now (block .entry)) ⌝ }
-{
-    next(s, block)
-}
-
-// The digest of a message whose first blocks, so many, led to s, and whose other bytes are rest.
-pub fn finish(s: State, blocks: u32, rest: &[u8]) -> [u8; 32]
-    ensures { λ r. ⌜ r ≡ finished s blocks (now (rest .entry)) ⌝ }
-{
-    let l = (blocks as u64) * 64 + rest.len() as u64;
-    let whole = rest.len() / 64 * 64;
-    let end = &rest[whole..];
-    let n = end_len(end, l);
-    let mut last = [0u8; 128];
-    fill(&mut last[..n], end, l);
-    digest(absorb(absorb(s, rest), &last[..n]))
-}
-
-// The hash value after the whole blocks of m, which are read where they lie; what is left past them is not looked at.
-fn absorb(s: State, m: &[u8]) -> State
-    ensures { λ r. ⌜ r ≡ Hᴺ s (now (m .entry)) ⌝ }
-{
-    let n = m.len() / 64;
-    let mut v = s;
-    let mut i = 0;
-    while i < n {
-        let at = 64 * i;
-        let e = at + 64;
-        v = next(v, &m[at..e]);
-        i += 1;
-    }
-    v
 }

@@ -4,10 +4,25 @@ ghost use Prim.Native.Nat.{_<_, _≤_, _*_, _%_};
 ghost use mathlib.Core.List.{_++_};
 ghost use lib.ListN.{length, getD};
 ghost use Rattle.sha256.specs.Fips180.{bytes, padding, digest as Fips·digest};
+ghost use Rattle.sha256.specs.Hash.{finished};
 use crate::State;
+use crate::block::absorb;
+
+// The digest of a message whose first blocks, so many, led to s, and whose other bytes are rest.
+pub fn finish(s: State, blocks: u32, rest: &[u8]) -> [u8; 32]
+    ensures { λ r. ⌜ r ≡ finished s blocks (now (rest .entry)) ⌝ }
+{
+    let l = (blocks as u64) * 64 + rest.len() as u64;
+    let whole = rest.len() / 64 * 64;
+    let end = &rest[whole..];
+    let n = end_len(end, l);
+    let mut last = [0u8; 128];
+    fill(&mut last[..n], end, l);
+    digest(absorb(absorb(s, rest), &last[..n]))
+}
 
 // How many bytes rest and the padding of a message of l bytes are: one block, or two where the first has no room for the length.
-pub(crate) fn end_len(rest: &[u8], l: u64) -> usize
+fn end_len(rest: &[u8], l: u64) -> usize
     requires { ⌜ length (now rest) ≡ l % 64 ⌝ }
     ensures { λ r. ⌜ r ≡ length (now (rest .entry) ++ padding l) ⌝ }
     ensures { λ r. ⌜ r ≤ 128 ⌝ }
@@ -16,7 +31,7 @@ pub(crate) fn end_len(rest: &[u8], l: u64) -> usize
 }
 
 // Fills out with rest and the padding of a message of l bytes.
-pub(crate) fn fill(out: &mut [u8], rest: &[u8], l: u64)
+fn fill(out: &mut [u8], rest: &[u8], l: u64)
     requires { ⌜ length (now rest) ≡ l % 64 ⌝ }
     requires { ⌜ length (now out) ≡ length (now rest ++ padding l) ⌝ }
     ensures { λ _. ⌜ now (out .exit) ≡ now (rest .entry) ++ padding l ⌝ }
@@ -66,7 +81,7 @@ fn bit_count(l: u64) -> [u8; 8]
 }
 
 // A hash value as bytes.
-pub(crate) fn digest(s: State) -> [u8; 32]
+fn digest(s: State) -> [u8; 32]
     ensures { λ r. ⌜ r ≡ Fips·digest s ⌝ }
 {
     [

@@ -1,8 +1,7 @@
-// The operations and functions on words of 32 bits (FIPS 180-4, 3.2 and 4.1.2).
+// The rotation and the six functions on words of 32 bits (FIPS 180-4, 3.2 and 4.1.2).
 ghost use mathlib.Core.Path.{_≡_};
-ghost use Prim.Native.Nat.{_<_, _+_, _≤_};
-ghost use lib.ListN.{length};
-ghost use Rattle.sha256.specs.Fips180.{ROTR, Ch as Fips·Ch, Maj as Fips·Maj, Σ₀, Σ₁, σ₀, σ₁, word as Fips·word};
+ghost use Prim.Native.Nat.{_<_};
+ghost use Rattle.sha256.specs.Fips180.{ROTR, Ch as Fips·Ch, Maj as Fips·Maj, Σ₀, Σ₁, σ₀, σ₁};
 
 fn rotr(n: u32, x: u32) -> u32
     requires { ⌜ (0 < n) × (n < 32) ⌝ }
@@ -45,19 +44,4 @@ pub(crate) fn lower_sigma_1(x: u32) -> u32
     ensures { λ r. ⌜ r ≡ σ₁ x ⌝ }
 {
     rotr(17, x) ^ rotr(19, x) ^ (x >> 10)
-}
-
-// The word that the four bytes from place i on make, the first the most significant.
-pub(crate) fn word(m: &[u8], i: usize) -> u32
-    requires { ⌜ i + 4 ≤ length (now m) ⌝ }
-    ensures { λ r. ⌜ r ≡ Fips·word (now (m .entry)) i ⌝ }
-{
-    wide(m[i]) * 0x100_0000 + wide(m[i + 1]) * 0x1_0000 + wide(m[i + 2]) * 0x100 + wide(m[i + 3])
-}
-
-fn wide(x: u8) -> u32
-    ensures { λ r. ⌜ r ≡ x ⌝ }
-    ensures { λ r. ⌜ r < 256 ⌝ }
-{
-    x as u32
 }

@@ -6,16 +6,16 @@ use Rattle.sha256.proofs.Scheduling.{early, late}
 use Rattle.sha256.proofs.block.scheduled.Statement.{statement}
 use Rattle.sha256.proofs.block.scheduled.Tie as tie
 
-mul-word : tie.Need-mul-word
-mul-word c = search needs
+mul-word-at : tie.Need-mul-word-at
+mul-word-at c = search needs
 
-word-requires : tie.Need-word-requires
-word-requires c κs = search needs
+word-at-requires : tie.Need-word-at-requires
+word-at-requires c κs = search needs
 
 returns : tie.Need-returns
 returns c =
     let s = c .before .before .before in
-    c .word .ensures ∙ sym (early (s .args .m .now) (s .args .w .now) (s .args .t) (c .before .if1 .taken))
+    c .word-at .ensures ∙ sym (early (s .args .m .now) (s .args .w .now) (s .args .t) (c .before .if1 .taken))
 
 sub-lower-sigma-1 : tie.Need-sub-lower-sigma-1
 sub-lower-sigma-1 c = search needs
@@ -74,8 +74,8 @@ pub scheduled-spec : {M : Type 1} → statement M
 scheduled-spec =
     tie.close
     (tie.spec
-    mul-word
-    word-requires
+    mul-word-at
+    word-at-requires
     returns
     sub-lower-sigma-1
     mul-lower-sigma-1

@@ -1,4 +1,4 @@
--- `sha256::absorb` meets its contract. The invariant: v is the hash value after i blocks. Assumes nothing.
+-- `sha256::block::absorb` meets its contract. The invariant: v is the hash value after i blocks. Assumes nothing.
 use borrow.Author.Needs.{needs}
 use mathlib.Core.Path.{_≡_, refl, ap, _∙_}
 use Prim.Native.Nat.{ℕ, _-_, _/_, _≤_}
@@ -6,8 +6,8 @@ use native.Mathlib.Omega.{arith}
 use lib.ListN.{length}
 use Rattle.sha256.proofs.Pieces.{lent, length-block, absorbed-one}
 use Rattle.sha256.specs.Fips180.{next, Hⁱ, Hᴺ}
-use Rattle.sha256.proofs.absorb.Statement.{statement}
-use Rattle.sha256.proofs.absorb.Tie as tie
+use Rattle.sha256.proofs.block.absorb.Statement.{statement}
+use Rattle.sha256.proofs.block.absorb.Tie as tie
 
 abbrev Inv-loop : tie.InvT-loop
 Inv-loop m n v₀ i₀ v i = (i ≤ n) × (v ≡ Hⁱ i v₀ m)

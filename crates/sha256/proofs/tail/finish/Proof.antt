@@ -1,4 +1,4 @@
--- `sha256::finish` meets its contract: what is left past the whole blocks, with its padding, fills the front of the buffer. Assumes nothing.
+-- `sha256::tail::finish` meets its contract: what is left past the whole blocks, with its padding, fills the front of the buffer. Assumes nothing.
 use borrow.Author.Needs.{needs}
 use mathlib.Core.Path.{_≡_, sym, ap, ap₂, _∙_}
 use Prim.Native.Nat.{ℕ, _+_, _-_, _*_, _/_}
@@ -9,8 +9,8 @@ use lib.Seq.{length-take-le, length-front, take-at, take-all}
 use Rattle.sha256.proofs.Pieces.{finishing}
 use Rattle.sha256.specs.Fips180.{padding, Hᴺ, digest}
 use Rattle.sha256.specs.declared.State.{State}
-use Rattle.sha256.proofs.finish.Statement.{statement}
-use Rattle.sha256.proofs.finish.Tie as tie
+use Rattle.sha256.proofs.tail.finish.Statement.{statement}
+use Rattle.sha256.proofs.tail.finish.Tie as tie
 
 mul-l : tie.Need-mul-l
 mul-l c = search needs

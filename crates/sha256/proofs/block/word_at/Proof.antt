@@ -1,7 +1,7 @@
--- `sha256::word::word` meets its contract: the four products fit, as each byte is below 256. Assumes nothing.
+-- `sha256::block::word_at` meets its contract: the four products fit, as each byte is below 256. Assumes nothing.
 use borrow.Author.Needs.{needs}
-use Rattle.sha256.proofs.word.word.Statement.{statement}
-use Rattle.sha256.proofs.word.word.Tie as tie
+use Rattle.sha256.proofs.block.word_at.Statement.{statement}
+use Rattle.sha256.proofs.block.word_at.Tie as tie
 
 shared-slice-read-wide : tie.Need-shared-slice-read-wide
 shared-slice-read-wide c = search needs
@@ -58,8 +58,8 @@ returns : tie.Need-returns
 unfolding Rattle.sha256.specs.Fips180.word
 returns c = search needs
 
-pub word-spec : {M : Type 1} → statement M
-word-spec =
+pub word-at-spec : {M : Type 1} → statement M
+word-at-spec =
     tie.close
     (tie.spec
     shared-slice-read-wide
