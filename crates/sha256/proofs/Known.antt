@@ -1,8 +1,7 @@
--- The definition computed on the standard's example "abc" (FIPS 180-4 names it in its examples for SHA-256).
+-- The definition computed by the checker on "abc", the first of NIST's worked examples of SHA-256.
 -- Assumes nothing.
 use mathlib.Core.Path.{_≡_, refl}
-use Prim.Native.Nat.{ℕ}
-use mathlib.Core.List.{List, [], _∷_}
+use mathlib.Core.List.{[], _∷_}
 use Rattle.sha256.specs.Fips180.{ROTR, bytes, word, Ch, Maj, Σ₀, Σ₁, σ₀, σ₁, K, padding, padded, block, H⁰, Wₜ, W, turn, turns, next, Hⁱ, Hᴺ, digest, SHA-256}
 
 pub abc : SHA-256 (0x61 ∷ 0x62 ∷ 0x63 ∷ [])

@@ -1,14 +1,20 @@
--- A digest has 32 bytes, and so has what stands beside a refusal. Assumes nothing.
+-- A padded message is whole blocks, and a digest has 32 bytes, as has what stands beside a refusal. Assumes nothing.
 use mathlib.Core.Path.{_≡_, refl}
-use Prim.Native.Nat.{ℕ}
+use Prim.Native.Nat.{ℕ, _%_}
+use native.Mathlib.Omega.{arith}
 use mathlib.Core.Bool.{Bool, cond, true, false}
 use mathlib.Core.List.{List}
 use lib.Dec.{ltb}
-use lib.ListN.{length, replicate}
+use lib.ListN.{length, replicate, length-append}
 use Rattle.sha256.specs.declared.State.{State}
 use Rattle.sha256.specs.declared.Hashed.{Hashed}
-use Rattle.sha256.specs.Fips180.{bytes, digest, SHA-256}
+use Rattle.sha256.specs.Fips180.{bytes, padding, padded, digest, SHA-256}
 use Rattle.sha256.specs.Hash.{answered}
+use Rattle.sha256.proofs.Ending.{length-padding}
+
+pub whole-blocks : (m : List ℕ) → length (padded m) % 64 ≡ 0
+unfolding padded
+whole-blocks m = omega (arith, length-append m (padding (length m)), length-padding (length m))
 
 length-digest : (s : State) → length (digest s) ≡ 32
 unfolding digest bytes

@@ -5,12 +5,12 @@ use Prim.Native.Nat.{ℕ, zero, suc, _+_, _-_, _*_, _≤_, _<_}
 use native.Mathlib.Numerals.{add-one}
 use native.Mathlib.Decide.{le-ind}
 use native.Mathlib.Omega.{arith}
-use mathlib.Core.Bool.{Bool, cond, true, false}
+use mathlib.Core.Bool.{Bool, true, false}
 use mathlib.Core.List.{List, [], _∷_, _++_}
 use lib.Dec.{ltb}
 use lib.ListN.{length, getD, take, set, length-append, List·getD-append}
 use lib.Seq.{getD-take, take-suc-set}
-use borrow.Author.Tests.{lt-ltb, le-ltb, ltb-false}
+use borrow.Author.Tests.{lt-ltb, le-ltb, ltb-true, ltb-false}
 use Rattle.sha256.specs.declared.State.{State}
 use Rattle.sha256.specs.Fips180.{_⊞_, word, K, σ₀, σ₁, Wₜ, W, turn, turns}
 
@@ -28,7 +28,9 @@ before : (m w : List ℕ) (t : ℕ) → Wₜ m w t ≡ Wₜ m (take t w) t
 before m w t = go (ltb t 16) refl
   where
     go : (b : Bool) → ltb t 16 ≡ b → Wₜ m w t ≡ Wₜ m (take t w) t
-    go true e = early m w t (lib.Dec.ltb→lt t 16 (rw e tt)) ∙ sym (early m (take t w) t (lib.Dec.ltb→lt t 16 (rw e tt)))
+    go true e =
+        let h : t < 16 = ltb-true t 16 e in
+        early m w t h ∙ sym (early m (take t w) t h)
     go false e =
         let h : 16 ≤ t = ltb-false t 16 e in
         late m w t h

@@ -12,7 +12,7 @@ use Rattle.sha256.specs.Fips180.{padding, Hᴺ, digest, SHA-256}
 unfoldable pub finished : State → ℕ → List ℕ → List ℕ
 finished s n rest = digest (Hᴺ s (rest ++ padding (64 * n + length rest)))
 
--- "a body to be hashed over 65,538" is refused by 2, "with all zero bytes beside the number"; any other gives 0 and its digest
+-- document 01: "a body to be hashed or fingerprinted over 65,538" is refused by 2, "with all zero bytes beside the number"
 unfoldable pub answered : List ℕ → Hashed
 answered body =
     cond (ltb 65538 (length body)) (record { number = 2; digest = replicate 32 0 })

@@ -1,6 +1,5 @@
 -- `abi::give` meets its contract: by its two tests. Assumes nothing.
 use borrow.Author.Needs.{needs}
-use native.Mathlib.Omega.{arith}
 use lib.ListN.{length}
 use mathlib.Core.Path.{_∙_}
 use Rattle.abi.proofs.Giving.{refused, other, put}

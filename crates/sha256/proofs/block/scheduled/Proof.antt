@@ -1,7 +1,6 @@
 -- `sha256::block::scheduled` meets its contract: by the two cases of the definition. Assumes nothing.
 use borrow.Author.Needs.{needs}
 use mathlib.Core.Path.{sym, _∙_}
-use native.Mathlib.Omega.{arith}
 use Rattle.sha256.proofs.Scheduling.{early, late}
 use Rattle.sha256.proofs.block.scheduled.Statement.{statement}
 use Rattle.sha256.proofs.block.scheduled.Tie as tie

@@ -8,7 +8,6 @@ use lib.ListN.{length, take, drop, replicate, length-drop}
 use lib.Seq.{length-take-le, length-front, take-at, take-all}
 use Rattle.sha256.proofs.Pieces.{finishing}
 use Rattle.sha256.specs.Fips180.{padding, Hᴺ, digest}
-use Rattle.sha256.specs.declared.State.{State}
 use Rattle.sha256.proofs.tail.finish.Statement.{statement}
 use Rattle.sha256.proofs.tail.finish.Tie as tie
 
