@@ -1,6 +1,7 @@
--- The schedule made a word at a time: word t hangs on the words before it alone, and a word that is made stays as it is.
+-- The schedule made a word at a time: word t hangs on the words before it alone, and a word that is made stays as it is; and
+-- the turns over it.
 -- Assumes nothing.
-use mathlib.Core.Path.{_≡_, refl, sym, ap, _∙_}
+use mathlib.Core.Path.{_≡_, refl, sym, ap, ap₂, _∙_}
 use Prim.Native.Nat.{ℕ, zero, suc, _+_, _-_, _*_, _≤_, _<_}
 use native.Mathlib.Numerals.{add-one}
 use native.Mathlib.Decide.{le-ind}
@@ -12,7 +13,7 @@ use lib.ListN.{length, getD, take, set, length-append, List·getD-append}
 use lib.Seq.{getD-take, take-suc-set}
 use borrow.Author.Tests.{lt-ltb, le-ltb, ltb-true, ltb-false}
 use Rattle.sha256.specs.declared.State.{State}
-use Rattle.sha256.specs.Fips180.{_⊞_, word, K, σ₀, σ₁, Wₜ, W, turn, turns}
+use Rattle.sha256.specs.Fips180.{_⊞_, word, Ch, Maj, Σ₀, Σ₁, σ₀, σ₁, K, Wₜ, W, turn, turns}
 
 -- the two cases of the definition
 pub early : (m w : List ℕ) (t : ℕ) → t < 16 → Wₜ m w t ≡ word m (4 * t)
@@ -61,6 +62,18 @@ kept m t n h =
 pub read : (m w : List ℕ) (t : ℕ) → t < 64 → take (t + 1) w ≡ W (t + 1) m → getD w t 0 ≡ getD (W 64 m) t 0
 read m w t h made =
     sym (getD-take (suc t) w t 0 (omega arith)) ∙ ap (λ (l : List ℕ). getD l t 0) (rw add-one at made) ∙ sym (kept m t 64 h)
+
+-- a turn, from the sums in the order in which the code makes them
+pub one-turn : (v : State) (k w : ℕ) {s₁ x c y z t₁ s₀ j t₂ a e : ℕ}
+    → s₁ ≡ Σ₁ (v .e) → x ≡ v .h ⊞ s₁ → c ≡ Ch (v .e) (v .f) (v .g) → y ≡ x ⊞ c → z ≡ y ⊞ k → t₁ ≡ z ⊞ w
+    → s₀ ≡ Σ₀ (v .a) → j ≡ Maj (v .a) (v .b) (v .c) → t₂ ≡ s₀ ⊞ j → a ≡ t₁ ⊞ t₂ → e ≡ v .d ⊞ t₁
+    → _≡_ {A = State} (record { a = a; b = v .a; c = v .b; d = v .c; e = e; f = v .e; g = v .f; h = v .g }) (turn v k w)
+unfolding turn
+one-turn v k w p₁ p₂ p₃ p₄ p₅ p₆ p₇ p₈ p₉ p₁₀ p₁₁ =
+    let T₁ = p₆ ∙ ap (λ (n : ℕ). n ⊞ w) (p₅ ∙ ap (λ (n : ℕ). n ⊞ k) (p₄ ∙ ap₂ _⊞_ (p₂ ∙ ap (_⊞_ (v .h)) p₁) p₃)) in
+    let T₂ = p₉ ∙ ap₂ _⊞_ p₇ p₈ in
+    ap₂ (λ (x y : ℕ). record { a = x; b = v .a; c = v .b; d = v .c; e = y; f = v .e; g = v .f; h = v .g })
+    (p₁₀ ∙ ap₂ _⊞_ T₁ T₂) (p₁₁ ∙ ap (_⊞_ (v .d)) T₁)
 
 -- one turn more
 pub turned : (w : List ℕ) (s v : State) (t : ℕ) → v ≡ turns t w s → turn v (getD K t 0) (getD w t 0) ≡ turns (t + 1) w s

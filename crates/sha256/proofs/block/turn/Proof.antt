@@ -1,5 +1,6 @@
 -- `sha256::block::turn` meets its contract: each sum is that of the definition. Assumes nothing.
 use borrow.Author.Needs.{needs}
+use Rattle.sha256.proofs.Scheduling.{one-turn}
 use Rattle.sha256.specs.Fips180.{turn}
 use Rattle.sha256.proofs.block.turn.Statement.{statement}
 use Rattle.sha256.proofs.block.turn.Tie as tie
@@ -38,8 +39,14 @@ wrapping-add-u32-requires-7 : tie.Need-wrapping-add-u32-requires-7
 wrapping-add-u32-requires-7 c κs = search needs
 
 returns : tie.Need-returns
-unfolding turn
-returns c = cc
+returns c =
+    let a = c .before .before .before .before .before .before .before .before .before .before .before .args in
+    let s = c .before .before .before .before .before in
+    let r = s .before .before .before in
+    one-turn (a .v) (a .k) (a .w) (r .before .before .upper-sigma-1 .ensures) (r .before .wrapping-add-u32 .ensures) (r .ch .ensures)
+    (s .before .before .wrapping-add-u322 .ensures) (s .before .wrapping-add-u323 .ensures) (s .wrapping-add-u324 .ensures)
+    (c .before .before .before .before .upper-sigma-0 .ensures) (c .before .before .before .maj .ensures)
+    (c .before .before .wrapping-add-u325 .ensures) (c .before .wrapping-add-u326 .ensures) (c .wrapping-add-u327 .ensures)
 
 pub turn-spec : {M : Type 1} → statement M
 turn-spec =
