@@ -12,11 +12,17 @@ fn main() {
     let mut ratios = Vec::new();
     for _ in 0..ROUNDS {
         let (ours, theirs) = (ours(), openssl());
-        println!("sha256 {ours:.1} MB/s, OpenSSL {theirs:.1} MB/s, ratio {:.2}", ours / theirs);
+        println!(
+            "sha256 {ours:.1} MB/s, OpenSSL {theirs:.1} MB/s, ratio {:.2}",
+            ours / theirs
+        );
         ratios.push(ours / theirs);
     }
     ratios.sort_by(f64::total_cmp);
-    println!("the median ratio of {ROUNDS} on bodies of {BODY} bytes: {:.2}", ratios[ROUNDS / 2]);
+    println!(
+        "the median ratio of {ROUNDS} on bodies of {BODY} bytes: {:.2}",
+        ratios[ROUNDS / 2]
+    );
 }
 
 /// Megabytes hashed in a second, of one body again and again.
@@ -36,11 +42,23 @@ fn ours() -> f64 {
 /// The same of `openssl speed`, whose last line ends in thousands of bytes a second, as 393216.00k.
 fn openssl() -> f64 {
     let run = Command::new("openssl")
-        .args(["speed", "-bytes", &BODY.to_string(), "-seconds", "1", "sha256"])
+        .args([
+            "speed",
+            "-bytes",
+            &BODY.to_string(),
+            "-seconds",
+            "1",
+            "sha256",
+        ])
         .env("OPENSSL_ia32cap", "~0x200000200000000:~0x20000000")
         .output()
         .expect("openssl runs");
     let said = String::from_utf8_lossy(&run.stdout);
-    let rate = said.split_whitespace().last().and_then(|word| word.strip_suffix('k'));
-    rate.and_then(|k| k.parse::<f64>().ok()).expect("openssl speed ends in a rate") / 1e3
+    let rate = said
+        .split_whitespace()
+        .last()
+        .and_then(|word| word.strip_suffix('k'));
+    rate.and_then(|k| k.parse::<f64>().ok())
+        .expect("openssl speed ends in a rate")
+        / 1e3
 }
