@@ -1,0 +1,5 @@
+pub mod Scheduling
+pub mod Ending
+pub mod Pieces
+pub mod Lengths
+pub mod Known
