@@ -33,9 +33,13 @@ shifted u = column (shift bytes (triple u))
 unfoldable pub times : Column → Column → Column
 times u v = column (product bytes (triple u) (triple v))
 
+-- "seed | 0 to 16,777,215"
+abbrev pub largest-seed : ℕ
+largest-seed = 16777215
+
 -- "Seed number s is the column (s mod 256, s / 256 mod 256, s / 65,536). As a column alone, a larger number gives the zero column"
 unfoldable pub from-seed : ℕ → Column
-from-seed s = elim (ltb 16777215 s) [ true ↦ zero | false ↦ record { a = s % 256; b = s / 256 % 256; c = s / 65536 } ]
+from-seed s = elim (ltb largest-seed s) [ true ↦ zero | false ↦ record { a = s % 256; b = s / 256 % 256; c = s / 65536 } ]
 
 -- columns as a carrier, and as a space over the bytes
 abbrev pub columns : Carrier Column

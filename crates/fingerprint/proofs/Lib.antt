@@ -1,0 +1,5 @@
+pub mod Exits
+pub mod Lookups
+pub mod Packing
+pub mod Parts
+pub mod Steps
