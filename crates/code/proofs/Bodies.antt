@@ -7,14 +7,15 @@ use native.Mathlib.Nat.{le-of-eq, le-trans, le-of-suc-le-suc, lt-irrefl, lt-of-l
 use lib.ListN.{length, getD, take}
 use lib.Seq.{ext-getD}
 use lib.Dec.{lit<}
+use borrow.Author.Tests.{eq-eqb, ne-eqb}
 use Rattle.algebra.specs.Several.{listed, All, In, Distinct}
-use Rattle.algebra.specs.Polynomial.{value, interpolate, weight}
+use Rattle.algebra.specs.Polynomial.{value, interpolate, only, coefficient, weight}
 use Rattle.algebra.specs.Combination.{combined, itself}
 use Rattle.algebra.proofs.Several.{all-at, all-of, map-same, listed-length, listed-at, all-listed, listed-distinct, in-listed}
 use Rattle.field.specs.Byte.{bytes, inverse}
 use Rattle.code.specs.Cutting.{points, source, byte-of, body, coefficient-of}
 use Rattle.code.specs.Joining.{regained, joined}
-use Rattle.code.proofs.Plain.{Small, plain-lagrange, plain-points, plain-coefficient, plain-none, plain-small, plain-recovered}
+use Rattle.code.proofs.Plain.{Small, plain-lagrange, plain-points, plain-coefficient, plain-none, plain-small, plain-recovered, only-small}
 
 pub points-length : (m : ℕ) → length (points m) ≡ m
 unfolding points
@@ -111,6 +112,22 @@ module _ (m F : ℕ) (hm : m ≤ 256) (block : List ℕ) (hb : All Small block) 
 pub coefficient-closed : (m : ℕ) → m ≤ 256 → (i : ℕ) → Small i → (j : ℕ) → j < m → coefficient-of m i j ≡ weight bytes inverse (points m) j i
 unfolding coefficient-of
 coefficient-closed m hm i hi j hj = plain-coefficient (points m) (points-small m hm) (points-distinct m) j (in-points m j hj) i hi
+
+-- body i, for i below m, is itself
+module _ (m : ℕ) (hm : m ≤ 256) (i : ℕ) (hi : i < m) (j : ℕ) (hj : Small j) where
+  coefficient-own : coefficient-of m i j ≡ only bytes j i
+  unfolding coefficient-of coefficient
+  coefficient-own =
+      plain-points (points m) (points-small m hm) (points-distinct m) (only bytes j)
+      (all-of _ (points m) (λ p k. only-small j p hj (all-at _ (points m) (points-small m hm) p k))) i (in-points m i hi)
+
+  pub coefficient-one : i ≡ j → coefficient-of m i j ≡ 1
+  unfolding only
+  coefficient-one e = coefficient-own ∙ rw (eq-eqb j i (sym e), only)
+
+  pub coefficient-none : (i ≡ j → ⊥) → coefficient-of m i j ≡ 0
+  unfolding only
+  coefficient-none ne = coefficient-own ∙ rw (ne-eqb j i (λ e. ne (sym e)), only)
 
 -- what is not below m counts nothing
 pub coefficient-beyond : (m : ℕ) → m ≤ 256 → (i : ℕ) → Small i → (j : ℕ) → Small j → m ≤ j → coefficient-of m i j ≡ 0

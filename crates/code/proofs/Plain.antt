@@ -49,7 +49,7 @@ number-space = record { none = refl; plus = λ a b. refl; scaled = λ a b. refl 
 abbrev over : (ℕ → ℕ) → Byte → Byte
 over f b = byte (f (number b))
 
-only-small : (q p : ℕ) → Small q → Small p → Small (only plain.bytes q p)
+pub only-small : (q p : ℕ) → Small q → Small p → Small (only plain.bytes q p)
 only-small q p hq hp =
     subst Small
     (only-carried field plain.bytes number number-carries (byte q) (byte p)
