@@ -9,6 +9,7 @@ use native.Mathlib.Omega.{arith}
 use lib.ListN.{length, getD, take, List·getD-eq-default}
 use lib.Seq.{ext-getD}
 use lib.Dec.{lit<}
+use borrow.Author.Tests.{eq-eqb, ne-eqb}
 use Rattle.algebra.specs.Several.{listed, All, In, Distinct}
 use Rattle.algebra.specs.Polynomial.{value, interpolate, only, coefficient, weight}
 use Rattle.algebra.specs.Combination.{combined, itself}
@@ -164,6 +165,22 @@ unfolding coefficient-of coefficient
 coefficient-small m hm i hi j hj =
     plain-small (points m) (points-small m hm) (only bytes j)
     (all-of _ (points m) (λ p q. only-small j p hj (all-at _ (points m) (points-small m hm) p q))) i hi
+
+-- body i, for i below m, is itself
+module _ (m : ℕ) (hm : m ≤ 256) (i : ℕ) (hi : i < m) (j : ℕ) (hj : Small j) where
+  coefficient-own : coefficient-of m i j ≡ only bytes j i
+  unfolding coefficient-of coefficient
+  coefficient-own =
+      plain-points (points m) (points-small m hm) (points-distinct m) (only bytes j)
+      (all-of _ (points m) (λ p k. only-small j p hj (all-at _ (points m) (points-small m hm) p k))) i (in-points m i hi)
+
+  pub coefficient-one : i ≡ j → coefficient-of m i j ≡ 1
+  unfolding only
+  coefficient-one e = coefficient-own ∙ rw (eq-eqb j i (sym e), only)
+
+  pub coefficient-none : (i ≡ j → ⊥) → coefficient-of m i j ≡ 0
+  unfolding only
+  coefficient-none ne = coefficient-own ∙ rw (ne-eqb j i (λ e. ne (sym e)), only)
 
 -- what is not below m counts nothing
 pub coefficient-beyond : (m : ℕ) → m ≤ 256 → (i : ℕ) → Small i → (j : ℕ) → Small j → m ≤ j → coefficient-of m i j ≡ 0

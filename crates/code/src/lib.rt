@@ -46,11 +46,17 @@ pub fn weight(points: &[u8], p: u8, t: u8) -> u8
     field::quotient(spread_but(points, p, t), spread(points, p))
 }
 
-// How much body j counts in body i; 0 where j is not below m.
+// How much body j counts in body i; 0 where j is not below m, and 1 or 0 where i is.
 pub fn coefficient(m: u8, i: u8, j: u8) -> u8
     ensures { λ r. ⌜ r ≡ cutting.coefficient-of m i j ⌝ }
 {
     if j >= m {
+        return 0;
+    }
+    if i < m {
+        if i == j {
+            return 1;
+        }
         return 0;
     }
     let all = points();

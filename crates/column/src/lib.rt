@@ -49,7 +49,7 @@ impl Column {
     }
 
     // Times x, where x^3 is x + 1.
-    fn shifted(self) -> Column
+    pub fn shifted(self) -> Column
         ensures { λ r. ⌜ r ≡ column.shifted self ⌝ }
     {
         Column {

@@ -1,3 +1,8 @@
 pub mod Linear
 pub mod Reading
 pub mod Combined
+pub mod Exits
+pub mod Lookups
+pub mod Packing
+pub mod Parts
+pub mod Steps

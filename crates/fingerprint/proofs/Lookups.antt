@@ -1,0 +1,144 @@
+-- The table of a seed column: three lookups are the product by it, so that Horner's rule over the table gives the fingerprint.
+use mathlib.Core.Path.{_≡_, refl, sym, ap, ap₂, subst, _∙_}
+use mathlib.Core.List.{List, [], _∷_, _++_}
+use Prim.Native.Nat.{ℕ, _+_, _<_}
+use native.Mathlib.Omega.{arith}
+use lib.ListN.{length, getD, List·getD-append}
+use lib.Seq.{getD-append-add}
+use lib.Dec.{lit<}
+use Rattle.algebra.specs.Several.{All, listed}
+use Rattle.algebra.specs.Polynomial.{value}
+use Rattle.algebra.proofs.Several.{listed-length, listed-at, listed-same}
+use Rattle.field.specs.Byte as byte
+use Rattle.field.proofs.Sum.{plus-lt, plus-assoc, plus-swap}
+use Rattle.field.proofs.Product.{times-plus, times-lt}
+use Rattle.field.proofs.Laws.{times-comm}
+use Rattle.field.proofs.Rows.{products-at}
+use Rattle.column.specs.declared.Column.{Column}
+use Rattle.column.specs.Column.{zero, plus, scaled, shifted, times, columns}
+use Rattle.column.proofs.Seed.{column-path}
+use Rattle.fingerprint.specs.Fingerprint.{columns-of, fingerprint-at}
+use Rattle.fingerprint.specs.Horner.{packed, unpacked, multiples, table-of, looked-up, evaluated}
+use Rattle.fingerprint.proofs.Packing.{Bytes, unpacked-packed, unpacked-bytes}
+
+plus-bytes : (u v : Column) → Bytes u → Bytes v → Bytes (plus u v)
+unfolding plus
+plus-bytes u v h k =
+    (plus-lt (u .a) (v .a) (h .0) (k .0), plus-lt (u .b) (v .b) (h .1) (k .1), plus-lt (u .c) (v .c) (h .2) (k .2))
+
+scaled-bytes : (k : ℕ) (u : Column) → k < 256 → Bytes (scaled k u)
+unfolding scaled
+scaled-bytes k u h = (times-lt k (u .a) h, times-lt k (u .b) h, times-lt k (u .c) h)
+
+sum-assoc : (u v w : Column) → plus (plus u v) w ≡ plus u (plus v w)
+unfolding plus
+sum-assoc u v w =
+    column-path _ _ (plus-assoc (u .a) (v .a) (w .a)) (plus-assoc (u .b) (v .b) (w .b)) (plus-assoc (u .c) (v .c) (w .c))
+
+-- times x carries sums to sums and multiples to multiples
+shifted-plus : (u v : Column) → shifted (plus u v) ≡ plus (shifted u) (shifted v)
+unfolding plus shifted
+shifted-plus u v = column-path _ _ refl (plus-swap (u .a) (v .a) (u .c) (v .c)) refl
+
+shifted-scaled : (k : ℕ) (u : Column) → shifted (scaled k u) ≡ scaled k (shifted u)
+unfolding scaled shifted
+shifted-scaled k u = column-path _ _ refl (sym (times-plus k (u .a) (u .c))) refl
+
+-- y times u, by the bytes of u
+times-by-bytes : (y u : Column)
+    → times y u ≡ plus (plus (scaled (u .a) y) (scaled (u .b) (shifted y))) (scaled (u .c) (shifted (shifted y)))
+unfolding times plus scaled shifted
+times-by-bytes y u =
+    ap (plus (scaled (u .a) y))
+    (shifted-plus (scaled (u .b) y) (shifted (scaled (u .c) y))
+    ∙ ap₂ plus (shifted-scaled (u .b) y) (ap shifted (shifted-scaled (u .c) y) ∙ shifted-scaled (u .c) (shifted y)))
+    ∙ sym (sum-assoc (scaled (u .a) y) (scaled (u .b) (shifted y)) (scaled (u .c) (shifted (shifted y))))
+
+pub multiples-length : (u : Column) → length (multiples u) ≡ 256
+unfolding multiples
+multiples-length u = listed-length 256 (λ k. packed (scaled k u))
+
+-- what is looked up among the multiples
+multiples-at : (u : Column) (k : ℕ) → k < 256 → unpacked (getD (multiples u) k 0) ≡ scaled k u
+unfolding multiples
+multiples-at u k h =
+    ap unpacked (listed-at 256 (λ j. packed (scaled j u)) 0 k h) ∙ unpacked-packed (scaled k u) (scaled-bytes k u h)
+
+-- the multiples, read in the rows of the three bytes
+pub rows-multiples : (u : Column) (ra rb rc : List ℕ) → Bytes u
+    → ra ≡ byte.products (u .a) → rb ≡ byte.products (u .b) → rc ≡ byte.products (u .c)
+    → listed 256 (λ k. packed (record { a = getD ra k 0; b = getD rb k 0; c = getD rc k 0 })) ≡ multiples u
+unfolding multiples scaled
+rows-multiples u ra rb rc h ea eb ec =
+    listed-same 256 _ _ (λ k hk. ap packed (column-path _ _ (entry ra (u .a) (h .0) ea k hk) (entry rb (u .b) (h .1) eb k hk) (entry rc (u .c) (h .2) ec k hk)))
+  where
+    entry : (r : List ℕ) (x : ℕ) → x < 256 → r ≡ byte.products x → (k : ℕ) → k < 256 → getD r k 0 ≡ byte.times k x
+    entry r x hx e k hk = ap (λ (l : List ℕ). getD l k 0) e ∙ products-at x k hk ∙ times-comm x k hx hk
+
+-- the three parts of the table
+pub table-put : (y second third : Column) (one two three : List ℕ) → second ≡ shifted y → third ≡ shifted second
+    → one ≡ multiples y → two ≡ multiples second → three ≡ multiples third → one ++ (two ++ three) ≡ table-of y
+unfolding table-of
+table-put y second third one two three es et e₁ e₂ e₃ =
+    (λ i. e₁ i ++ ((e₂ ∙ ap multiples es) i ++ (e₃ ∙ ap multiples (et ∙ ap shifted es)) i))
+
+-- an entry of the first 256, and of those behind them
+in-first : (u : Column) (rest : List ℕ) (k : ℕ) → k < 256 → unpacked (getD (multiples u ++ rest) k 0) ≡ scaled k u
+in-first u rest k h =
+    ap unpacked (List·getD-append (multiples u) rest 0 k (omega (arith, multiples-length u))) ∙ multiples-at u k h
+
+behind : (u : Column) (rest : List ℕ) (k : ℕ) → getD (multiples u ++ rest) (256 + k) 0 ≡ getD rest k 0
+behind u rest k =
+    ap (λ (n : ℕ). getD (multiples u ++ rest) (n + k) 0) (sym (multiples-length u)) ∙ getD-append-add (multiples u) rest k 0
+
+-- three lookups in the table of y are the product by y
+pub looked-up-times : (y u : Column) → Bytes u → looked-up (table-of y) u ≡ times y u
+unfolding looked-up table-of
+looked-up-times y u h =
+    (λ i. plus (plus (in-first y (two ++ three) (u .a) (h .0) i) (second i)) (third i)) ∙ sym (times-by-bytes y u)
+  where
+    two : List ℕ
+    two = multiples (shifted y)
+
+    three : List ℕ
+    three = multiples (shifted (shifted y))
+
+    second : unpacked (getD (table-of y) (256 + u .b) 0) ≡ scaled (u .b) (shifted y)
+    second = ap unpacked (behind y (two ++ three) (u .b)) ∙ in-first (shifted y) three (u .b) (h .1)
+
+    third : unpacked (getD (table-of y) (512 + u .c) 0) ≡ scaled (u .c) (shifted (shifted y))
+    third =
+        let e : 512 + u .c ≡ 256 + (256 + u .c) = omega arith in
+        ap (λ (n : ℕ). unpacked (getD (table-of y) n 0)) e
+        ∙ ap unpacked (behind y (two ++ three) (256 + u .c) ∙ behind (shifted y) three (u .c))
+        ∙ multiples-at (shifted (shifted y)) (u .c) (h .2)
+
+looked-up-bytes : (t : List ℕ) (u : Column) → Bytes (looked-up t u)
+unfolding looked-up
+looked-up-bytes t u =
+    plus-bytes _ _ (plus-bytes _ _ (unpacked-bytes (getD t (u .a) 0)) (unpacked-bytes (getD t (256 + u .b) 0)))
+    (unpacked-bytes (getD t (512 + u .c) 0))
+
+evaluated-bytes : (t : List ℕ) (cs : List Column) → All Bytes cs → Bytes (evaluated t cs)
+unfolding evaluated
+evaluated-bytes t [] h = (lit< tt, lit< tt, lit< tt)
+evaluated-bytes t (c ∷ cs) h = plus-bytes c _ (h .0) (looked-up-bytes t (evaluated t cs))
+
+evaluated-value : (y : Column) (cs : List Column) → All Bytes cs → evaluated (table-of y) cs ≡ value columns cs y
+unfolding evaluated value
+evaluated-value y [] h = refl
+evaluated-value y (c ∷ cs) h =
+    ap (plus c) (looked-up-times y (evaluated (table-of y) cs) (evaluated-bytes (table-of y) cs (h .1)) ∙ ap (times y) (evaluated-value y cs (h .1)))
+
+columns-bytes : (body : List ℕ) → All (λ n. n < 256) body → All Bytes (columns-of body)
+unfolding columns-of
+columns-bytes [] h = tt
+columns-bytes (a ∷ []) h = ((h .0, lit< tt, lit< tt), tt)
+columns-bytes (a ∷ b ∷ []) h = ((h .0, h .1 .0, lit< tt), tt)
+columns-bytes (a ∷ b ∷ c ∷ rest) h = ((h .0, h .1 .0, h .1 .1 .0), columns-bytes rest (h .1 .1 .1))
+
+-- what the table of y gives is the fingerprint at y
+pub evaluated-fingerprint : (y : Column) (body : List ℕ) → All (λ n. n < 256) body
+    → evaluated (table-of y) (columns-of body) ≡ fingerprint-at y body
+unfolding fingerprint-at
+evaluated-fingerprint y body h = evaluated-value y (columns-of body) (columns-bytes body h)

@@ -1,0 +1,122 @@
+-- What the loops over columns rest on: a list of bytes read as columns from the last to the first.
+use mathlib.Core.Path.{_≡_, refl, sym, ap, ap₂, _∙_}
+use mathlib.Core.List.{List, [], _∷_, map}
+use Prim.Native.Nat.{ℕ, suc, _+_, _-_, _*_, _<_, _≤_}
+use native.Mathlib.Nat.{le-of-eq, not-suc-le-zero, add-zero}
+use native.Mathlib.Omega.{arith}
+use lib.Bits.{bitXor}
+use lib.ListN.{length, getD, drop, length-drop, drop-of-length-le, length-map}
+use lib.Seq.{getD-drop, drop-drop}
+use Rattle.algebra.specs.Combination.{combined}
+use Rattle.algebra.proofs.Several.{listed-at, map-listed}
+use Rattle.column.specs.declared.Column.{Column}
+use Rattle.column.specs.Column.{zero, plus, scaled, column-space}
+use Rattle.code.specs.Cutting.{points, coefficient-of}
+use Rattle.code.proofs.Bodies.{points-length}
+use Rattle.code.proofs.Walks.{dropped}
+use Rattle.fingerprint.specs.Fingerprint.{columns-of, called-for}
+use Rattle.fingerprint.specs.Horner.{packed, unpacked, looked-up, evaluated}
+use Rattle.fingerprint.proofs.Packing.{unpacked-packed, unpacked-plus}
+
+-- the three bytes from k on, zero where there are none
+abbrev pub column-at : List ℕ → ℕ → Column
+column-at l k = record { a = getD l k 0; b = getD l (k + 1) 0; c = getD l (k + 2) 0 }
+
+first-column : (l : List ℕ) → 0 < length l
+    → columns-of l ≡ record { a = getD l 0 0; b = getD l 1 0; c = getD l 2 0 } ∷ columns-of (drop 3 l)
+unfolding columns-of
+first-column [] h = absurd (not-suc-le-zero h)
+first-column (a ∷ []) h = refl
+first-column (a ∷ b ∷ []) h = refl
+first-column (a ∷ b ∷ c ∷ l) h = refl
+
+-- one column more at the front
+pub next-column : (l : List ℕ) (k : ℕ) → k < length l → columns-of (drop k l) ≡ column-at l k ∷ columns-of (drop (k + 3) l)
+next-column l k h =
+    first-column (drop k l) (omega (arith, length-drop k l))
+    ∙ (λ i. record { a = at-zero i; b = getD-drop k l 1 0 i; c = getD-drop k l 2 0 i } ∷ columns-of (drop-drop 3 k l i))
+  where
+    at-zero : getD (drop k l) 0 0 ≡ getD l k 0
+    at-zero = getD-drop k l 0 0 ∙ ap (λ (n : ℕ). getD l n 0) (add-zero k)
+
+-- no column behind the end
+pub no-column : (l : List ℕ) (k : ℕ) → length l ≤ k → columns-of (drop k l) ≡ []
+unfolding columns-of
+no-column l k h = ap columns-of (drop-of-length-le l h)
+
+module _ (t body : List ℕ) (small : (k : ℕ) → getD body k 0 < 256) where
+  -- one step of Horner's rule
+  pub horner-step : (k column looked value : ℕ) → k < length body → column ≡ packed (column-at body k)
+      → unpacked looked ≡ looked-up t (unpacked value) → unpacked value ≡ evaluated t (columns-of (drop (k + 3) body))
+      → unpacked (bitXor column looked) ≡ evaluated t (columns-of (drop k body))
+  unfolding evaluated
+  horner-step k column looked value h ec el ev =
+      unpacked-plus column looked
+      ∙ ap₂ plus (ap unpacked ec ∙ unpacked-packed (column-at body k) (small k, small (k + 1), small (k + 2))) (el ∙ ap (looked-up t) ev)
+      ∙ sym (ap (evaluated t) (next-column body k h))
+
+  -- before the first step
+  pub horner-none : (k : ℕ) → length body ≤ k → unpacked 0 ≡ evaluated t (columns-of (drop k body))
+  unfolding evaluated unpacked
+  horner-none k h = sym (ap (evaluated t) (no-column body k h))
+
+  -- a turn of the loop, and its end
+  pub horner-turn : (k column looked value : ℕ) → 3 ≤ k → k ≤ length body → column ≡ packed (column-at body (k - 3))
+      → unpacked looked ≡ looked-up t (unpacked value) → unpacked value ≡ evaluated t (columns-of (drop k body))
+      → unpacked (bitXor column looked) ≡ evaluated t (columns-of (drop (k - 3) body))
+  horner-turn k column looked value some within ec el ev =
+      let e : k ≡ k - 3 + 3 = omega arith in
+      horner-step (k - 3) column looked value (omega arith) ec el (ev ∙ ap (λ (n : ℕ). evaluated t (columns-of (drop n body))) e)
+
+  pub horner-all : (k : ℕ) (u : Column) → k ≤ 0 → u ≡ evaluated t (columns-of (drop k body)) → u ≡ evaluated t (columns-of body)
+  horner-all k u h e = let z : k ≡ 0 = omega arith in e ∙ ap (λ (n : ℕ). evaluated t (columns-of (drop n body))) z
+
+module _ (m i : ℕ) (prints : List ℕ) where
+  -- body i's own coefficients
+  own : List ℕ
+  own = map (coefficient-of m i) (points m)
+
+  -- the combination from the j-th fingerprint on
+  pub called-from : ℕ → Column
+  called-from j = combined column-space (drop j own) (columns-of (drop (3 * j) prints))
+
+  own-length : length own ≡ m
+  unfolding own
+  own-length = length-map (points m) (coefficient-of m i) ∙ points-length m
+
+  own-at : (j : ℕ) → j < m → getD own j 0 ≡ coefficient-of m i j
+  unfolding own points
+  own-at j h =
+      ap (λ (l : List ℕ). getD l j 0) (map-listed (coefficient-of m i) m (λ k. k)) ∙ listed-at m (coefficient-of m i) 0 j h
+
+  none-called : (cs : List ℕ) → combined column-space cs [] ≡ zero
+  unfolding combined
+  none-called [] = refl
+  none-called (c ∷ cs) = refl
+
+  -- from the m-th on there is no coefficient
+  pub called-none : zero ≡ called-from m
+  unfolding called-from combined
+  called-none = sym (ap (λ (cs : List ℕ). combined column-space cs (columns-of (drop (3 * m) prints))) (drop-of-length-le own (le-of-eq own-length)))
+
+  behind : (j : ℕ) → length prints ≤ 3 * j → called-from j ≡ zero
+  unfolding called-from
+  behind j h = ap (combined column-space (drop j own)) (no-column prints (3 * j) h) ∙ none-called (drop j own)
+
+  -- a turn behind the last fingerprint, and one at a fingerprint
+  pub called-beyond : (j : ℕ) (sum : Column) → length prints ≤ 3 * (j - 1) → sum ≡ called-from j → sum ≡ called-from (j - 1)
+  called-beyond j sum h e = e ∙ behind j (omega arith) ∙ sym (behind (j - 1) h)
+
+  pub called-turn : (j c : ℕ) (v w sum : Column) → 0 < j → j ≤ m → 3 * (j - 1) < length prints
+      → v ≡ column-at prints (3 * (j - 1)) → c ≡ coefficient-of m i (j - 1) → w ≡ scaled c v → sum ≡ called-from j
+      → plus w sum ≡ called-from (j - 1)
+  unfolding called-from combined
+  called-turn j c v w sum some within inside ev ec ew es =
+      ap₂ plus (ew ∙ ap₂ scaled (ec ∙ sym (own-at (j - 1) (omega arith))) ev)
+      (es ∙ ap (λ (n : ℕ). combined column-space (drop j own) (columns-of (drop n prints))) (let e : 3 * j ≡ 3 * (j - 1) + 3 = omega arith in e))
+      ∙ sym (ap₂ (combined column-space) (dropped own j 0 some (omega (arith, own-length))) (next-column prints (3 * (j - 1)) inside))
+
+  -- from the first on, the whole
+  pub called-all : (j : ℕ) (sum : Column) → j ≤ 0 → sum ≡ called-from j → sum ≡ called-for m i (columns-of prints)
+  unfolding called-from called-for own
+  called-all j sum h e = e ∙ ap called-from (let z : j ≡ 0 = omega arith in z)
