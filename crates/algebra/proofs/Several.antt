@@ -1,11 +1,11 @@
 -- Laws of `listed`, `All`, `In` and `Distinct`.
-use mathlib.Core.Path.{_≡_, refl, sym, ap, ap₂, subst}
+use mathlib.Core.Path.{_≡_, refl, sym, ap, ap₂, subst, _∙_}
 use mathlib.Core.Logic.{_≢_, _⊎_, inl, inr}
-use mathlib.Core.List.{List, [], _∷_, map}
-use Prim.Native.Nat.{ℕ, zero, suc, _<_, suc-le-suc}
-use native.Mathlib.Nat.{le-of-suc-le-suc, not-suc-le-zero, zero-lt-suc, suc-ne-zero, suc-inj}
-use lib.ListN.{length, getD, take}
-use Rattle.algebra.specs.Several.{listed, All, In, Distinct}
+use mathlib.Core.List.{List, [], _∷_, _++_, map, append-assoc, append-nil}
+use Prim.Native.Nat.{ℕ, zero, suc, _+_, _*_, _<_, suc-le-suc}
+use native.Mathlib.Nat.{le-of-suc-le-suc, not-suc-le-zero, zero-lt-suc, suc-ne-zero, suc-inj, zero-mul, suc-mul, add-comm}
+use lib.ListN.{length, getD, take, length-append}
+use Rattle.algebra.specs.Several.{listed, end-to-end, All, In, Distinct}
 
 -- what all entries have, each has
 pub all-at : {A : Type 0} (P : A → Type 0) (l : List A) → All P l → (a : A) → In a l → P a
@@ -89,3 +89,25 @@ distinct-take zero [] d = tt
 distinct-take zero (a ∷ l) d = tt
 distinct-take (suc n) [] d = tt
 distinct-take (suc n) (a ∷ l) d = (all-take _ n l (d .0), distinct-take n l (d .1))
+
+-- one value more stands at the end
+pub listed-more : {A : Type 0} (n : ℕ) (f : ℕ → A) → listed (suc n) f ≡ listed n f ++ (f n ∷ [])
+unfolding listed
+listed-more zero f = refl
+listed-more (suc n) f = ap (λ (l : List _). f zero ∷ l) (listed-more n (λ k. f (suc k)))
+
+end-to-end-at-end : {A : Type 0} (ls : List (List A)) (l : List A) → end-to-end (ls ++ (l ∷ [])) ≡ end-to-end ls ++ l
+unfolding end-to-end
+end-to-end-at-end [] l = append-nil l
+end-to-end-at-end (k ∷ ls) l = ap (λ (r : List _). k ++ r) (end-to-end-at-end ls l) ∙ sym (append-assoc k (end-to-end ls) l)
+
+pub end-to-end-more : {A : Type 0} (n : ℕ) (f : ℕ → List A) → end-to-end (listed (suc n) f) ≡ end-to-end (listed n f) ++ f n
+end-to-end-more n f = ap end-to-end (listed-more n f) ∙ end-to-end-at-end (listed n f) (f n)
+
+-- lists of one length, end to end
+pub end-to-end-length : {A : Type 0} (n k : ℕ) (f : ℕ → List A) → ((i : ℕ) → i < n → length (f i) ≡ k) → length (end-to-end (listed n f)) ≡ n * k
+unfolding listed end-to-end
+end-to-end-length zero k f h = sym (zero-mul k)
+end-to-end-length (suc n) k f h =
+    length-append (f zero) _ ∙ ap₂ _+_ (h zero (zero-lt-suc n)) (end-to-end-length n k (λ i. f (suc i)) (λ i l. h (suc i) (suc-le-suc l)))
+    ∙ add-comm k (n * k) ∙ sym (suc-mul n k)
