@@ -14,11 +14,13 @@ impl Column {
 
     pub const ONE: Column = Column { a: 1, b: 0, c: 0 };
 
+    pub const LARGEST_SEED: u32 = 16777215;
+
     // The column of a seed number; of a number over 16,777,215 the zero column.
     pub fn from_seed(seed: u32) -> Column
         ensures { λ r. ⌜ r ≡ column.from-seed seed ⌝ }
     {
-        if seed > 16777215 {
+        if seed > Column::LARGEST_SEED {
             return Column::ZERO;
         }
         Column {

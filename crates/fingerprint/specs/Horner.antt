@@ -33,7 +33,7 @@ pub record Halves : Type 0 where
 -- "iteratively compute fp <- fp y + a_j(x)", from the last column to the first
 unfoldable pub halves : List ℕ → List Column → Halves
 halves t [] = record { even = zero; odd = zero }
-halves t (c ∷ cs) = record { even = plus c (looked-up t (halves t cs .odd)); odd = halves t cs .even }
+halves t (c ∷ cs) = let rest = halves t cs in record { even = plus c (looked-up t (rest .odd)); odd = rest .even }
 
 -- (c0 + c2 y^2 + ..) + (c1 + c3 y^2 + ..) y, where the table is that of y^2
 unfoldable pub evaluated : List ℕ → Column → List Column → Column

@@ -10,8 +10,6 @@ use column::Column;
 
 const LONGEST_BODY: usize = 65538;
 
-const LARGEST_SEED: u32 = 16777215;
-
 // A number of the table of what comes back, and the fingerprint; beside a refusal the zero column.
 pub struct Fingerprinted {
     pub number: u8,
@@ -25,7 +23,7 @@ pub fn fingerprint(seed: u32, body: &[u8]) -> Fingerprinted
     if body.len() > LONGEST_BODY {
         return refused(2);
     }
-    if seed > LARGEST_SEED {
+    if seed > Column::LARGEST_SEED {
         return refused(3);
     }
     if body.len() % 3 != 0 {
