@@ -2,7 +2,7 @@
 use Prim.Native.Nat.{_-_, _≤_, min}
 use native.Mathlib.Omega.{arith}
 use lib.ListN.{length}
-use Rattle.code.proofs.Walks.{Adding, add-start, add-turn, add-end}
+use Rattle.code.proofs.Sums.{Adding, add-start, add-turn, add-end}
 use borrow.Author.Needs.{needs}
 use Rattle.code.proofs.add_scaled.Statement.{statement}
 use Rattle.code.proofs.add_scaled.Tie as tie
