@@ -2,4 +2,5 @@ pub mod Bodies
 pub mod Lengths
 pub mod Plain
 pub mod Spreads
+pub mod Sums
 pub mod Walks

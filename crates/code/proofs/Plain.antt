@@ -11,7 +11,7 @@ use Rattle.algebra.specs.Combination.{combined, itself}
 use Rattle.algebra.proofs.Several.{all-at, all-of, all-both, map-same}
 use Rattle.algebra.proofs.Carried.{SpaceCarries, value-carried, interpolate-carried, only-carried, weight-carried, combined-carried}
 use Rattle.algebra.proofs.Interpolation.{through-points, through-length, recovered}
-use Rattle.algebra.proofs.Lagrange.{lagrange, coefficient-weight, coefficient-none, by-way}
+use Rattle.algebra.proofs.Lagrange.{lagrange, coefficient-weight, coefficient-none}
 use Rattle.field.specs.Byte as plain
 use Rattle.field.proofs.Byte.{Byte, field, laws, number, byte, number-byte, byte-number, inverse, times-inverse, number-carries, number-inverse}
 

@@ -1,20 +1,16 @@
--- What the loops of this crate rest on: lists walked from the last entry to the first, lists filled from the front, sums made byte by byte.
-use mathlib.Core.Path.{_≡_, refl, sym, ap, ap₂, subst₂, _∙_}
-use mathlib.Core.List.{List, [], _∷_, _++_}
-use Prim.Native.Nat.{ℕ, zero, suc, _+_, _-_, _<_, _≤_, min}
-use native.Mathlib.Nat.{not-suc-le-zero, div-zero}
-use native.Mathlib.Numerals.{add-one}
+-- What the loops over points rest on: lists walked from the last entry to the first, and lists filled from the front.
+use mathlib.Core.Path.{_≡_, sym, ap, ap₂, subst₂, _∙_}
+use mathlib.Core.List.{List, [], _∷_}
+use Prim.Native.Nat.{ℕ, zero, suc, _+_, _-_, _<_, _≤_}
+use native.Mathlib.Nat.{not-suc-le-zero}
 use native.Mathlib.Decide.{ℕ-discrete}
 use native.Mathlib.Omega.{arith}
 use borrow.Author.Tests.{eq-eqb, ne-eqb}
-use lib.Bits.{bitXor}
-use lib.ListN.{length, getD, take, drop, set, length-set, length-drop, take-append-drop}
-use lib.Seq.{drop-cons, drop-length, take-suc-set, drop-set-lt, getD-set-same, getD-set-other, append-snoc, ext-getD}
+use lib.ListN.{length, getD, drop, set, length-set}
+use lib.Seq.{drop-cons, drop-length, getD-set-same, getD-set-other, ext-getD}
 use Rattle.algebra.specs.Several.{listed, All}
 use Rattle.algebra.proofs.Several.{listed-length, listed-at}
-use Rattle.field.specs.Byte.{bytes, plus, times, products}
-use Rattle.field.proofs.Rows.{products-at}
-use Rattle.code.specs.Adding.{added}
+use Rattle.field.specs.Byte.{bytes, plus, times}
 use Rattle.code.specs.Weights.{spread-but}
 use Rattle.code.proofs.Plain.{Small}
 use Rattle.code.proofs.Spreads.{but-same, but-other}
@@ -81,50 +77,3 @@ module _ (f : ℕ → ℕ) (n : ℕ) where
 pub all-small : (l : List ℕ) → ((k : ℕ) → Small (getD l k 0)) → All Small l
 all-small [] h = tt
 all-small (a ∷ l) h = (h zero, all-small l (λ k. h (suc k)))
-
--- of the sum, the first k bytes are done
-pub record Adding (by : ℕ) (sum₀ body : List ℕ) (k : ℕ) (sum : List ℕ) : Type 0 where
-  pub long : length sum ≡ length sum₀
-  pub left : added by sum₀ body ≡ take k sum ++ added by (drop k sum) (drop k body)
-
-module _ (by : ℕ) (sum₀ body : List ℕ) where
-  pub add-start : Adding by sum₀ body 0 sum₀
-  add-start = record { long = refl; left = refl }
-
-  module _ (k : ℕ) (sum row : List ℕ) (hs : k < length sum) (hb : k < length body) (small : Small (getD body k 0)) where
-    next : ℕ
-    next = bitXor (getD sum k 0) (getD row (getD body k 0) 0)
-
-    -- the next byte is the sum's plus the body's multiple
-    one-more : row ≡ products by → added by (drop k sum) (drop k body) ≡ next ∷ added by (drop (suc k) sum) (drop (suc k) body)
-    unfolding added next plus
-    one-more e =
-        ap₂ (added by) (drop-cons sum k 0 hs) (drop-cons body k 0 hb)
-        ∙ ap (λ (x : ℕ). bitXor (getD sum k 0) x ∷ added by (drop (suc k) sum) (drop (suc k) body))
-        (sym (ap (λ (l : List ℕ). getD l (getD body k 0) 0) e ∙ products-at by (getD body k 0) small))
-
-    pub add-turn : row ≡ products by → Adding by sum₀ body k sum → Adding by sum₀ body (k + 1) (set sum k (bitXor (getD sum k 0) (getD row (getD body k 0) 0)))
-    unfolding next
-    add-turn e A =
-        record {
-          long = length-set sum k next ∙ A .long;
-          left =
-              A .left ∙ ap (λ (l : List ℕ). take k sum ++ l) (one-more e)
-              ∙ sym (append-snoc (take k sum) next (added by (drop (suc k) sum) (drop (suc k) body)))
-              ∙ sym (ap₂ (λ (l r : List ℕ). l ++ added by r (drop (suc k) body)) (take-suc-set sum k next hs) (drop-set-lt (suc k) sum k next (omega arith)))
-              ∙ ap (λ (n : ℕ). take n (set sum k next) ++ added by (drop n (set sum k next)) (drop n body)) (sym (add-one k));
-        }
-
-  -- beyond the shorter nothing is added
-  none-left : (s b : List ℕ) → min (length s) (length b) ≡ 0 → added by s b ≡ s
-  unfolding added
-  none-left [] b h = refl
-  none-left (x ∷ s) [] h = refl
-  none-left (x ∷ s) (y ∷ b) h = absurd (let z : min (suc (length s)) (suc (length b)) ≡ 0 = h in omega arith)
-
-  pub add-end : (k : ℕ) (sum : List ℕ) → min (length sum₀) (length body) ≤ k → Adding by sum₀ body k sum → sum ≡ added by sum₀ body
-  add-end k sum h A =
-      sym (A .left ∙ ap (λ (l : List ℕ). take k sum ++ l) (none-left (drop k sum) (drop k body) short) ∙ take-append-drop k sum)
-    where
-      short : min (length (drop k sum)) (length (drop k body)) ≡ 0
-      short = omega (arith, length-drop k sum, length-drop k body, A .long)

@@ -1,24 +1,29 @@
 -- The table of a seed column: three lookups are the product by it, so that Horner's rule over the table gives the fingerprint.
-use mathlib.Core.Path.{_≡_, refl, sym, ap, ap₂, subst, _∙_}
+use mathlib.Core.Path.{_≡_, refl, sym, ap, ap₂, _∙_}
 use mathlib.Core.List.{List, [], _∷_, _++_}
 use Prim.Native.Nat.{ℕ, _+_, _<_}
 use native.Mathlib.Omega.{arith}
 use lib.ListN.{length, getD, List·getD-append}
 use lib.Seq.{getD-append-add}
 use lib.Dec.{lit<}
+use Rattle.algebra.specs.Carrier.{Carrier, Laws}
 use Rattle.algebra.specs.Several.{All, listed}
 use Rattle.algebra.specs.Polynomial.{value}
+use Rattle.algebra.proofs.Ring.{ring}
 use Rattle.algebra.proofs.Several.{listed-length, listed-at, listed-same}
 use Rattle.field.specs.Byte as byte
+use Rattle.field.proofs.Byte.{Byte, field}
 use Rattle.field.proofs.Sum.{plus-lt, plus-assoc, plus-swap}
 use Rattle.field.proofs.Product.{times-plus, times-lt}
 use Rattle.field.proofs.Laws.{times-comm}
 use Rattle.field.proofs.Rows.{products-at}
 use Rattle.column.specs.declared.Column.{Column}
+use Rattle.column.specs.Triple.{Triple, triples}
 use Rattle.column.specs.Column.{zero, plus, scaled, shifted, times, columns}
 use Rattle.column.proofs.Seed.{column-path}
+use Rattle.column.proofs.Laws.{column-laws, numbers}
 use Rattle.fingerprint.specs.Fingerprint.{columns-of, fingerprint-at}
-use Rattle.fingerprint.specs.Horner.{packed, unpacked, multiples, table-of, looked-up, evaluated}
+use Rattle.fingerprint.specs.Horner.{packed, unpacked, multiples, table-of, looked-up, halves, evaluated}
 use Rattle.fingerprint.proofs.Packing.{Bytes, unpacked-packed, unpacked-bytes}
 
 plus-bytes : (u v : Column) → Bytes u → Bytes v → Bytes (plus u v)
@@ -119,16 +124,42 @@ looked-up-bytes t u =
     plus-bytes _ _ (plus-bytes _ _ (unpacked-bytes (getD t (u .a) 0)) (unpacked-bytes (getD t (256 + u .b) 0)))
     (unpacked-bytes (getD t (512 + u .c) 0))
 
-evaluated-bytes : (t : List ℕ) (cs : List Column) → All Bytes cs → Bytes (evaluated t cs)
-unfolding evaluated
-evaluated-bytes t [] h = (lit< tt, lit< tt, lit< tt)
-evaluated-bytes t (c ∷ cs) h = plus-bytes c _ (h .0) (looked-up-bytes t (evaluated t cs))
+halves-bytes : (t : List ℕ) (cs : List Column) → All Bytes cs → Bytes (halves t cs .even) × Bytes (halves t cs .odd)
+unfolding halves
+halves-bytes t [] h = ((lit< tt, lit< tt, lit< tt), (lit< tt, lit< tt, lit< tt))
+halves-bytes t (c ∷ cs) h = (plus-bytes c _ (h .0) (looked-up-bytes t (halves t cs .odd)), halves-bytes t cs (h .1) .0)
 
-evaluated-value : (y : Column) (cs : List Column) → All Bytes cs → evaluated (table-of y) cs ≡ value columns cs y
-unfolding evaluated value
-evaluated-value y [] h = refl
-evaluated-value y (c ∷ cs) h =
-    ap (plus c) (looked-up-times y (evaluated (table-of y) cs) (evaluated-bytes (table-of y) cs (h .1)) ∙ ap (times y) (evaluated-value y cs (h .1)))
+-- one column more before the two halves, over any carrier
+horner-ring : {A : Type 0} (K : Carrier A) (L : Laws K) (c y e o : A)
+    → K .plus (K .plus c (K .times (K .times y y) o)) (K .times y e) ≡ K .plus c (K .times y (K .plus e (K .times y o)))
+horner-ring K L c y e o = simp (ring, L)
+
+-- a column of bytes for a column of numbers
+abbrev lifted : (u : Column) → Bytes u → Triple Byte
+lifted u h = record { a = (u .a, h .0); b = (u .b, h .1); c = (u .c, h .2) }
+
+horner-columns : (c y e o : Column) → Bytes c → Bytes y → Bytes e → Bytes o
+    → plus (plus c (times (times y y) o)) (times y e) ≡ plus c (times y (plus e (times y o)))
+unfolding plus times
+horner-columns c y e o hc hy he ho =
+    ap numbers (horner-ring (triples field) column-laws (lifted c hc) (lifted y hy) (lifted e he) (lifted o ho))
+
+zero-alone : (y : Column) → Bytes y → plus zero (times y zero) ≡ zero
+unfolding plus times
+zero-alone y hy = ap numbers (none-alone (triples field) column-laws (lifted y hy))
+  where
+    none-alone : {A : Type 0} (K : Carrier A) (L : Laws K) (a : A) → K .plus (K .none) (K .times a (K .none)) ≡ K .none
+    none-alone K L a = simp (ring, L)
+
+evaluated-value : (y : Column) → Bytes y → (cs : List Column) → All Bytes cs → evaluated (table-of (times y y)) y cs ≡ value columns cs y
+unfolding evaluated halves value
+evaluated-value y hy [] h = zero-alone y hy
+evaluated-value y hy (c ∷ cs) h =
+    let t = table-of (times y y) in
+    let b = halves-bytes t cs (h .1) in
+    ap (λ (u : Column). plus (plus c u) (times y (halves t cs .even))) (looked-up-times (times y y) (halves t cs .odd) (b .1))
+    ∙ horner-columns c y (halves t cs .even) (halves t cs .odd) (h .0) hy (b .0) (b .1)
+    ∙ ap (λ (u : Column). plus c (times y u)) (evaluated-value y hy cs (h .1))
 
 columns-bytes : (body : List ℕ) → All (λ n. n < 256) body → All Bytes (columns-of body)
 unfolding columns-of
@@ -137,8 +168,8 @@ columns-bytes (a ∷ []) h = ((h .0, lit< tt, lit< tt), tt)
 columns-bytes (a ∷ b ∷ []) h = ((h .0, h .1 .0, lit< tt), tt)
 columns-bytes (a ∷ b ∷ c ∷ rest) h = ((h .0, h .1 .0, h .1 .1 .0), columns-bytes rest (h .1 .1 .1))
 
--- what the table of y gives is the fingerprint at y
-pub evaluated-fingerprint : (y : Column) (body : List ℕ) → All (λ n. n < 256) body
-    → evaluated (table-of y) (columns-of body) ≡ fingerprint-at y body
+-- what the table of y^2 gives is the fingerprint at y
+pub evaluated-fingerprint : (y : Column) → Bytes y → (body : List ℕ) → All (λ n. n < 256) body
+    → evaluated (table-of (times y y)) y (columns-of body) ≡ fingerprint-at y body
 unfolding fingerprint-at
-evaluated-fingerprint y body h = evaluated-value y (columns-of body) (columns-bytes body h)
+evaluated-fingerprint y hy body h = evaluated-value y hy (columns-of body) (columns-bytes body h)

@@ -4,7 +4,7 @@ use Prim.Native.Nat.{ℕ, _+_, _*_, _/_, _%_}
 use lib.ListN.{getD}
 use Rattle.algebra.specs.Several.{listed}
 use Rattle.column.specs.declared.Column.{Column}
-use Rattle.column.specs.Column.{zero, plus, scaled, shifted}
+use Rattle.column.specs.Column.{zero, plus, scaled, shifted, times}
 
 -- the three bytes of a column in one number, and the column of a number's three lowest bytes
 unfoldable pub packed : Column → ℕ
@@ -25,7 +25,16 @@ table-of y = multiples y ++ (multiples (shifted y) ++ multiples (shifted (shifte
 unfoldable pub looked-up : List ℕ → Column → Column
 looked-up t u = plus (plus (unpacked (getD t (u .a) 0)) (unpacked (getD t (256 + u .b) 0))) (unpacked (getD t (512 + u .c) 0))
 
+-- the values of the columns c0, c2, .. and of c1, c3, ..: one column more in front makes each the other's
+pub record Halves : Type 0 where
+  pub even : Column
+  pub odd : Column
+
 -- "iteratively compute fp <- fp y + a_j(x)", from the last column to the first
-unfoldable pub evaluated : List ℕ → List Column → Column
-evaluated t [] = zero
-evaluated t (c ∷ cs) = plus c (looked-up t (evaluated t cs))
+unfoldable pub halves : List ℕ → List Column → Halves
+halves t [] = record { even = zero; odd = zero }
+halves t (c ∷ cs) = let rest = halves t cs in record { even = plus c (looked-up t (rest .odd)); odd = rest .even }
+
+-- (c0 + c2 y^2 + ..) + (c1 + c3 y^2 + ..) y, where the table is that of y^2
+unfoldable pub evaluated : List ℕ → Column → List Column → Column
+evaluated t y cs = plus (halves t cs .even) (times y (halves t cs .odd))

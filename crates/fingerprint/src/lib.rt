@@ -27,10 +27,11 @@ pub fn fingerprint(seed: u32, body: &[u8]) -> Fingerprinted
     if body.len() % 3 != 0 {
         return refused(4);
     }
-    let entries = table(Column::from_seed(seed));
+    let y = Column::from_seed(seed);
+    let entries = table(y.times(y));
     Fingerprinted {
         number: 0,
-        column: evaluated(&entries, body),
+        column: evaluated(&entries, y, body),
     }
 }
 
@@ -75,12 +76,14 @@ fn fill(out: &mut [u32], u: Column)
     }
 }
 
-// Horner's rule from the last column to the first; a last column that is not whole is filled with zero bytes.
-pub fn evaluated(table: &[u32; 768], body: &[u8]) -> Column
-    ensures { λ r. ⌜ r ≡ horner.evaluated (now (table .entry)) (print.columns-of (now (body .entry))) ⌝ }
+// Horner's rule from the last column to the first, with a table of y^2: two values in turn, so that a lookup waits for the one
+// before the last. A last column that is not whole is filled with zero bytes.
+pub fn evaluated(table: &[u32; 768], y: Column, body: &[u8]) -> Column
+    ensures { λ r. ⌜ r ≡ horner.evaluated (now (table .entry)) y (print.columns-of (now (body .entry))) ⌝ }
 {
     let mut k = body.len() - body.len() % 3;
-    let mut value = last(table, body, k);
+    let mut even = last(table, body, k);
+    let mut odd = 0;
     while k > 0 {
         k -= 3;
         let column = packed(Column {
@@ -88,15 +91,17 @@ pub fn evaluated(table: &[u32; 768], body: &[u8]) -> Column
             b: body[k + 1],
             c: body[k + 2],
         });
-        value = column ^ looked_up(table, value);
+        let next = column ^ looked_up(table, odd);
+        odd = even;
+        even = next;
     }
-    unpacked(value)
+    unpacked(even).plus(y.times(unpacked(odd)))
 }
 
 // The value of what is left of a body from `at` on, less than a whole column.
 fn last(table: &[u32; 768], body: &[u8], at: usize) -> u32
     requires { ⌜ (at ≤ length (now body)) × (length (now body) < at + 3) ⌝ }
-    ensures { λ r. ⌜ horner.unpacked r ≡ horner.evaluated (now (table .entry)) (print.columns-of (drop at (now (body .entry)))) ⌝ }
+    ensures { λ r. ⌜ horner.unpacked r ≡ horner.halves (now (table .entry)) (print.columns-of (drop at (now (body .entry)))) .even ⌝ }
 {
     if at == body.len() {
         return 0;

@@ -1,9 +1,8 @@
 -- `code::add_scaled` meets its contract: byte by byte, with what is left still to be added.
 use Prim.Native.Nat.{_-_, _≤_, min}
-use mathlib.Core.Path.{_≡_}
 use native.Mathlib.Omega.{arith}
-use lib.ListN.{length, length-set}
-use Rattle.code.proofs.Walks.{Adding, add-start, add-turn, add-end}
+use lib.ListN.{length}
+use Rattle.code.proofs.Sums.{Adding, add-start, add-turn, add-end}
 use borrow.Author.Needs.{needs}
 use Rattle.code.proofs.add_scaled.Statement.{statement}
 use Rattle.code.proofs.add_scaled.Tie as tie

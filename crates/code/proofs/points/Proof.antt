@@ -1,7 +1,6 @@
 -- `code::points` meets its contract: each point is put at its own place.
-use mathlib.Core.Path.{refl, subst, sym}
-use mathlib.Core.List.{List}
-use Prim.Native.Nat.{ℕ, _-_, _≤_}
+use mathlib.Core.Path.{refl}
+use Prim.Native.Nat.{_-_, _≤_}
 use native.Mathlib.Omega.{arith}
 use Rattle.code.specs.Cutting.{points}
 use Rattle.code.proofs.Walks.{Listed, listed-none, listed-put, listed-all}

@@ -1,9 +1,8 @@
 -- `code::spread_but` meets its contract: from the last point to the first, the product of those that are done is the spread over them.
-use mathlib.Core.Path.{_≡_, refl, sym, ap, _∙_}
+use mathlib.Core.Path.{_≡_}
 use Prim.Native.Nat.{_≤_}
 use native.Mathlib.Omega.{arith}
 use lib.ListN.{length, drop}
-use lib.Seq.{drop-length}
 use Rattle.field.specs.Byte.{bytes}
 use Rattle.code.specs.Weights.{spread-but}
 use Rattle.code.proofs.Walks.{none-spread, passed-over, multiplied, all-spread}

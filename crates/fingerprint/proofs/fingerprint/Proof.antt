@@ -1,5 +1,6 @@
 -- `fingerprint::fingerprint` meets its contract: three refusals, and the fingerprint.
 use mathlib.Core.Path.{_∙_}
+use native.Mathlib.Omega.{arith}
 use Rattle.code.proofs.Walks.{all-small}
 use Rattle.fingerprint.proofs.Exits.{too-long, no-seed, no-columns, done}
 use borrow.Author.Needs.{needs}
@@ -34,6 +35,9 @@ returns-3 c =
 from-seed-requires : tie.Need-from-seed-requires
 from-seed-requires c κs = search needs
 
+times-requires : tie.Need-times-requires
+times-requires c κs = search needs
+
 table-requires : tie.Need-table-requires
 table-requires c κs = search needs
 
@@ -42,12 +46,13 @@ evaluated-requires c κs = search needs
 
 returns-4 : tie.Need-returns-4
 returns-4 c =
-    let b4 = c .before .before .before .before in
+    let b2 = c .before .before in
+    let b4 = b2 .before .before in
     let b7 = b4 .before .before .before in
-    let a = b7 .before .args in
-    done (a .seed) (a .body .now) (b4 .before .before .if1 .left) (b4 .before .if2 .left) _ (c .before .before .table .result) _
-    (all-small (a .body .now) (λ k. b7 .shared-slice-known .given k .fits)) (b4 .if3 .left)
-    (c .before .before .before .from-seed .ensures) (c .before .before .table .ensures) (c .evaluated .ensures)
+    let a = b7 .before .before .args in
+    done (a .seed) (a .body .now) (b7 .if1 .left) (b4 .before .before .if2 .left) _ _ (b2 .table .result) _ (omega (arith, b4 .from-seed .ok))
+    (all-small (a .body .now) (λ k. b7 .before .shared-slice-known .given k .fits)) (b4 .before .if3 .left)
+    (b4 .from-seed .ensures) (b2 .before .times .ensures) (b2 .table .ensures) (c .evaluated .ensures)
 
 pub fingerprint-spec : {M : Type 1} → statement M
 fingerprint-spec =
@@ -60,6 +65,7 @@ fingerprint-spec =
     refused-requires-3
     returns-3
     from-seed-requires
+    times-requires
     table-requires
     evaluated-requires
     returns-4)

@@ -1,5 +1,4 @@
 -- `fingerprint::looked_up` meets its contract: the exclusive or of three entries is the sum of their columns.
-use lib.ListN.{getD}
 use Rattle.fingerprint.specs.Horner.{unpacked, looked-up}
 use Rattle.fingerprint.proofs.Packing.{unpacked-plus₃}
 use borrow.Author.Needs.{needs}
