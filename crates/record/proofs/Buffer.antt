@@ -39,6 +39,7 @@ copied bytes l out k e fits o =
 pub put-behind : (a b l : List ℕ) (at : ℕ) → length a ≡ at → at + length b ≤ length l
     → take at (put a l) ++ put b (drop at (put a l)) ≡ put (a ++ b) l
 put-behind a b l at e h =
+    let behind : List ℕ = drop (length a) l in
     ap (λ (p : List ℕ). take at p ++ put b (drop at p)) (put-fits a l (omega arith))
     ∙ ap₂ (λ (p q : List ℕ). p ++ put b q) (take-at a behind at e) (drop-at a behind at e)
     ∙ ap (λ (q : List ℕ). a ++ q) (put-fits b behind (simp length-drop (omega arith)))
@@ -46,6 +47,3 @@ put-behind a b l at e h =
     ∙ sym (append-assoc a b (drop (length a + length b) l))
     ∙ ap (λ (j : ℕ). a ++ b ++ drop j l) (sym (length-append a b))
     ∙ sym (put-fits (a ++ b) l (simp length-append (omega arith)))
-  where
-    abbrev behind : List ℕ
-    behind = drop (length a) l

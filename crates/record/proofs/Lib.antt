@@ -1,3 +1,5 @@
 pub mod Buffer
+pub mod Fields
 pub mod Head
 pub mod Numbers
+pub mod Tests

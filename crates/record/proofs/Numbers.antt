@@ -32,6 +32,10 @@ pub number-more : (k at : ℕ) (l : List ℕ) (n b : ℕ) → n ≡ number-at k 
 unfolding number-at
 number-more k at l n b e f = ap₂ (λ (x y : ℕ). x * 256 + y) e f ∙ ap (λ (j : ℕ). number-at j at l) (sym (add-one k))
 
+-- all of the bytes
+pub number-all : (k at : ℕ) (l : List ℕ) (n count : ℕ) → k ≡ count → n ≡ number-at k at l → n ≡ number-at count at l
+number-all k at l n count e f = f ∙ ap (λ (j : ℕ). number-at j at l) e
+
 -- the k bytes of a number, wherever they stand, are read as that number
 pub number-back : (k n at : ℕ) (a b : List ℕ) → n < 256 ^ k → length a ≡ at → number-at k at (a ++ (big k n ++ b)) ≡ n
 unfolding number-at big

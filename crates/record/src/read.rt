@@ -33,7 +33,7 @@ fn wide(x: u8) -> u64
 
 // The number that `count` bytes from `at` on stand for.
 pub(crate) fn number_at(s: &[u8], count: usize, at: usize) -> u64
-    requires { ⌜ (count ≤ 8) × (at < 256) ⌝ }
+    requires { ⌜ (count ≤ 8) × (at < 65536) ⌝ }
     ensures { λ r. ⌜ r ≡ layout.number-at count at (now (s .entry)) ⌝ }
 {
     let mut n: u64 = 0;
@@ -46,7 +46,7 @@ pub(crate) fn number_at(s: &[u8], count: usize, at: usize) -> u64
 }
 
 fn column_at(s: &[u8], at: usize) -> Column
-    requires { ⌜ at < 256 ⌝ }
+    requires { ⌜ at < 65536 ⌝ }
     ensures { λ r. ⌜ r ≡ layout.column-at at (now (s .entry)) ⌝ }
 {
     Column {

@@ -1,9 +1,9 @@
+-- `read::column_at` meets its contract: byte by byte.
+use Rattle.column.proofs.Seed.{column-path}
+use Rattle.record.specs.Layout.{column-at}
 use borrow.Author.Needs.{needs}
 use Rattle.record.proofs.read.column_at.Statement.{statement}
 use Rattle.record.proofs.read.column_at.Tie as tie
-use Rattle.record.proofs.read.column_at.Reads as reads
-use Rattle.record.proofs.read.column_at.Lts as lts
-use Rattle.record.proofs.read.byte_at.Reads as byte-at-reads
 
 byte-at-requires : tie.Need-byte-at-requires
 byte-at-requires c κs = search needs
@@ -21,7 +21,8 @@ byte-at-requires-3 : tie.Need-byte-at-requires-3
 byte-at-requires-3 c κs = search needs
 
 returns : tie.Need-returns
-returns c = search needs
+unfolding column-at
+returns c = column-path _ _ (c .before .before .byte-at .ensures) (c .before .byte-at2 .ensures) (c .byte-at3 .ensures)
 
 pub column-at-spec : {M : Type 1} → statement M
 column-at-spec =

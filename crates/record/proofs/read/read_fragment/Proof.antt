@@ -1,12 +1,12 @@
+-- `read::read_fragment` meets its contract: field by field, and four bytes fit 32 bits.
+use Prim.Native.Nat.{_+_}
+use native.Mathlib.Omega.{arith}
+use Rattle.record.proofs.Head.{head-below}
+use Rattle.record.proofs.Numbers.{number-below}
+use Rattle.record.proofs.Fields.{fragment-fields}
 use borrow.Author.Needs.{needs}
 use Rattle.record.proofs.read.read_fragment.Statement.{statement}
 use Rattle.record.proofs.read.read_fragment.Tie as tie
-use Rattle.record.proofs.read.read_fragment.Reads as reads
-use Rattle.record.proofs.read.read_fragment.Lts as lts
-use Rattle.record.proofs.places.head.Reads as head-reads
-use Rattle.record.proofs.read.byte_at.Reads as byte-at-reads
-use Rattle.record.proofs.read.number_at.Reads as number-at-reads
-use Rattle.record.proofs.read.version_of.Reads as version-of-reads
 
 version-of-requires : tie.Need-version-of-requires
 version-of-requires c κs = search needs
@@ -21,16 +21,19 @@ byte-at-requires : tie.Need-byte-at-requires
 byte-at-requires c κs = search needs
 
 add-number-at : tie.Need-add-number-at
-add-number-at c = search needs
+add-number-at c = omega (arith, head-below (c .before .before .before .version-of .result))
 
 number-at-requires-2 : tie.Need-number-at-requires-2
-number-at-requires-2 c κs = search needs
+number-at-requires-2 c κs = omega (arith, head-below (c .before .before .before .version-of .result))
 
 cast-t8 : tie.Need-cast-t8
-cast-t8 c = search needs
+cast-t8 c =
+    omega (arith, c .number-at2 .ensures, number-below 4 (c .before .before .before .head .result + 1) (c .before .before .before .before .before .before .args .fragment .now) (λ i. c .before .before .before .before .before .shared-slice-known .given i .fits))
 
 returns : tie.Need-returns
-returns c = search needs
+returns c =
+    fragment-fields (c .before .before .before .before .before .before .args .fragment .now) _ _ _ (c .before .before .before .before .version-of .ensures) (c .before .before .before .head .ensures) (c .before .before .number-at .ensures)
+      _ _ (c .before .byte-at .ensures) (c .number-at2 .ensures)
 
 pub read-fragment-spec : {M : Type 1} → statement M
 read-fragment-spec =

@@ -1,5 +1,5 @@
 use Prim.Native.Nat.{_≤_, _-_}
-use mathlib.Core.Path.{_≡_}
+use mathlib.Core.Path.{_≡_, refl, sym, _∙_}
 use native.Mathlib.Omega.{arith}
 use lib.ListN.{length, length-set}
 use lib.Seq.{paste, paste-zero}
@@ -15,16 +15,16 @@ abbrev μ-loop : tie.MeasureT-loop
 μ-loop out₀ bytes k₀ out k = length bytes - k
 
 returns : tie.Need-returns Inv-loop μ-loop
-returns c = search needs
+returns c = sym (put-short (c .before .args .bytes .now) (c .before .args .out .now) (c .if1 .taken))
 
 loop-holds : tie.Need-loop-holds Inv-loop μ-loop
-loop-holds c = search needs
+loop-holds c = (omega arith, omega arith, refl, paste-zero (c .before .args .out .now) 0 (c .before .args .bytes .now))
 
 shared-slice-read-out : tie.Need-shared-slice-read-out Inv-loop μ-loop
 shared-slice-read-out c = search needs
 
 slice-write-out : tie.Need-slice-write-out Inv-loop μ-loop
-slice-write-out c = search needs
+slice-write-out c = omega arith
 
 add-k : tie.Need-add-k Inv-loop μ-loop
 add-k c = search needs
@@ -33,13 +33,24 @@ loop-less : tie.Need-loop-less Inv-loop μ-loop
 loop-less c = search needs
 
 loop-again : tie.Need-loop-again Inv-loop μ-loop
-loop-again c = search needs
+loop-again c =
+    let loop = c .before .before .loop in
+    let start = c .before .before .before .before in
+    (
+      omega arith,
+      loop .inv .1,
+      length-set (loop .out) (loop .k) _ ∙ loop .inv .2,
+      copy-more (start .args .bytes .now) (start .args .out .now) (loop .out) (loop .k) (c .before .loop-test .taken) (loop .inv .1) (loop .inv .3),
+    )
 
 same-length : tie.Need-same-length Inv-loop μ-loop
-same-length c = search needs
+same-length c = c .before .loop .inv .2
 
 returns-2 : tie.Need-returns-2 Inv-loop μ-loop
-returns-2 c = search needs
+returns-2 c =
+    let loop = c .before .loop in
+    let start = c .before .before .before in
+    copied (start .args .bytes .now) (start .args .out .now) (loop .out) (loop .k) (omega arith) (loop .inv .1) (loop .inv .3)
 
 pub put-spec : {M : Type 1} → statement M
 put-spec =
