@@ -1,13 +1,14 @@
 -- Writing at the start of a buffer: the copy byte by byte, and one thing written behind another.
 use mathlib.Core.Path.{_≡_, sym, ap, ap₂, _∙_}
-use mathlib.Core.List.{List, _++_, append-assoc}
-use Prim.Native.Nat.{ℕ, _+_, _≤_, _<_}
+use mathlib.Core.List.{List, _++_, append-assoc, append-nil}
+use Prim.Native.Nat.{ℕ, _+_, _-_, _≤_, _<_}
 use native.Mathlib.Nat.{zero-add}
 use native.Mathlib.Numerals.{add-one}
 use native.Mathlib.Omega.{arith}
 use borrow.Author.Tests.{le-leb, lt-leb}
-use lib.ListN.{length, take, drop, getD, set, length-append, length-drop}
-use lib.Seq.{take-length, take-at, drop-at, drop-drop, paste, paste-suc}
+use borrow.Rule.Slice.PartMut.{midOf, putMid}
+use lib.ListN.{length, take, drop, getD, set, length-append, length-drop, drop-of-length-le}
+use lib.Seq.{take-all, take-length, take-at, drop-at, drop-drop, paste, paste-suc}
 use Rattle.record.specs.Put.{put}
 
 pub put-fits : (bytes l : List ℕ) → length bytes ≤ length l → put bytes l ≡ bytes ++ drop (length bytes) l
@@ -47,3 +48,12 @@ put-behind a b l at e h =
     ∙ sym (append-assoc a b (drop (length a + length b) l))
     ∙ ap (λ (j : ℕ). a ++ b ++ drop j l) (sym (length-append a b))
     ∙ sym (put-fits (a ++ b) l (simp length-append (omega arith)))
+
+-- the part from a place to the end that is lent, and the whole once it comes back
+pub rest-lent : (l : List ℕ) (at : ℕ) → midOf at (length l - at) l ≡ drop at l
+rest-lent l at = take-all (length l - at) (drop at l) (simp length-drop (omega arith))
+
+pub rest-back : (l part : List ℕ) (at : ℕ) → putMid at (length l - at) l part ≡ take at l ++ part
+rest-back l part at =
+    ap (λ (r : List ℕ). take at l ++ (part ++ r)) (drop-of-length-le (drop at l) {i = length l - at} (simp length-drop (omega arith)))
+    ∙ ap (λ (r : List ℕ). take at l ++ r) (append-nil part)

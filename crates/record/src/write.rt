@@ -47,9 +47,18 @@ fn digits(n: u64) -> [u8; 8]
     ]
 }
 
-// A head: mark, version and block number, as every record has them, and the fields behind them, where all of it fits.
-fn put_head(out: &mut [u8], mark: &[u8; 3], version: u16, number: u64, fields: &[u8])
-    ensures { λ r. ⌜ now (out .exit) ≡ buffer.put (now (mark .entry) ++ (big 2 version ++ (big 8 number ++ now (fields .entry)))) (now (out .entry)) ⌝ }
+// What every record starts with: mark, version, block number.
+fn put_front(out: &mut [u8], mark: [u8; 3], version: u16, number: u64)
+    ensures { λ r. ⌜ now (out .exit) ≡ buffer.put (mark ++ (big 2 version ++ big 8 number)) (now (out .entry)) ⌝ }
+{
+    let v = digits(version as u64);
+    let d = digits(number);
+    put(out, &[mark[0], mark[1], mark[2], v[6], v[7], d[0], d[1], d[2], d[3], d[4], d[5], d[6], d[7]]);
+}
+
+// What every record starts with, and the fields behind it, where all of it fits.
+fn put_head(out: &mut [u8], mark: [u8; 3], version: u16, number: u64, fields: &[u8])
+    ensures { λ r. ⌜ now (out .exit) ≡ buffer.put (mark ++ (big 2 version ++ (big 8 number ++ now (fields .entry)))) (now (out .entry)) ⌝ }
 {
     let at = head(version);
     if out.len() < at {
@@ -58,10 +67,7 @@ fn put_head(out: &mut [u8], mark: &[u8; 3], version: u16, number: u64, fields: &
     if out.len() - at < fields.len() {
         return;
     }
-    let v = digits(version as u64);
-    let d = digits(number);
-    let front = [mark[0], mark[1], mark[2], v[6], v[7], d[0], d[1], d[2], d[3], d[4], d[5], d[6], d[7]];
-    put(out, &front);
+    put_front(out, mark, version, number);
     put(&mut out[at..], fields);
 }
 
@@ -71,7 +77,7 @@ pub fn write_check_head(out: &mut [u8], head: CheckHead)
     let l = digits(head.length as u64);
     let seed = head.seed;
     let fields = [l[4], l[5], l[6], l[7], head.m, head.n, seed.a, seed.b, seed.c];
-    put_head(out, &CHECK_MARK, head.version, head.number, &fields);
+    put_head(out, CHECK_MARK, head.version, head.number, &fields);
 }
 
 pub fn write_fragment_head(out: &mut [u8], head: FragmentHead)
@@ -79,5 +85,5 @@ pub fn write_fragment_head(out: &mut [u8], head: FragmentHead)
 {
     let f = digits(head.size as u64);
     let fields = [head.index, f[4], f[5], f[6], f[7]];
-    put_head(out, &FRAGMENT_MARK, head.version, head.number, &fields);
+    put_head(out, FRAGMENT_MARK, head.version, head.number, &fields);
 }
