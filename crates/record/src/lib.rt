@@ -1,5 +1,30 @@
-// The two records of document 01, written and read: their heads as values, and the tests that refuse by 5, 6 and 8.
+// The two records of document 01, written and read.
+// Places and lengths: `hash_place`, `prints_place`, `check_length`, `body_place`, `record_length`.
+// Reading: `byte_at`, `read_check`, `read_fragment`; what lies past the end reads as zero.
+// The tests that refuse by 1, 5, 6 and 8: `counts_fit`, `check_marked`, `check_shaped`, `fragment_shaped`.
+// Writing: `put`, `write_check_head`, `write_fragment_head`; a buffer that is too short holds what it held.
+// No function asks anything of its caller.
+mod places;
+mod read;
+mod shape;
+mod write;
+
 use column::Column;
+pub use places::body_place;
+pub use places::check_length;
+pub use places::hash_place;
+pub use places::prints_place;
+pub use places::record_length;
+pub use read::byte_at;
+pub use read::read_check;
+pub use read::read_fragment;
+pub use shape::check_marked;
+pub use shape::check_shaped;
+pub use shape::counts_fit;
+pub use shape::fragment_shaped;
+pub use write::put;
+pub use write::write_check_head;
+pub use write::write_fragment_head;
 
 // What stands before the hashes of a check record.
 pub struct CheckHead {

@@ -1,0 +1,71 @@
+use Prim.Native.Nat.{_≤_, _-_}
+use mathlib.Core.Path.{_≡_, _∙_}
+use native.Mathlib.Omega.{arith}
+use Rattle.record.specs.Layout.{number-at}
+use Rattle.record.proofs.Numbers.{number-fits, number-more, number-all}
+use borrow.Author.Needs.{needs}
+use Rattle.record.proofs.read.number_at.Statement.{statement}
+use Rattle.record.proofs.read.number_at.Tie as tie
+
+abbrev Inv-loop : tie.InvT-loop
+Inv-loop s count at n₀ k₀ n k = (k ≤ count) × (n ≡ number-at k at s)
+
+abbrev μ-loop : tie.MeasureT-loop
+μ-loop s count at n₀ k₀ n k = count - k
+
+loop-holds : tie.Need-loop-holds Inv-loop μ-loop
+unfolding number-at
+loop-holds c = search needs
+
+mul-n : tie.Need-mul-n Inv-loop μ-loop
+mul-n c =
+    let start = c .before .before .before in
+    omega (arith, number-fits (c .before .loop .k) (start .args .at) (start .args .s .now) (λ i. c .before .before .shared-slice-known .given i .fits) (omega arith))
+
+add-byte-at : tie.Need-add-byte-at Inv-loop μ-loop
+add-byte-at c = search needs
+
+byte-at-requires : tie.Need-byte-at-requires Inv-loop μ-loop
+byte-at-requires c κs = search needs
+
+wide-requires : tie.Need-wide-requires Inv-loop μ-loop
+wide-requires c κs = search needs
+
+add-n : tie.Need-add-n Inv-loop μ-loop
+add-n c =
+    let start = c .before .before .before .before .before in
+    let loop = c .before .before .before .loop in
+    omega (arith, c .wide .ensures, c .before .byte-at .ok,
+      number-fits (loop .k) (start .args .at) (start .args .s .now) (λ i. c .before .before .before .before .shared-slice-known .given i .fits) (omega arith))
+
+add-k : tie.Need-add-k Inv-loop μ-loop
+add-k c = search needs
+
+loop-less : tie.Need-loop-less Inv-loop μ-loop
+loop-less c = search needs
+
+loop-again : tie.Need-loop-again Inv-loop μ-loop
+loop-again c = (
+  omega arith,
+  number-more _ _ (c .before .before .before .before .before .args .s .now) _ _ (c .before .before .before .loop .inv .1) (c .wide .ensures ∙ c .before .byte-at .ensures),
+)
+
+returns : tie.Need-returns Inv-loop μ-loop
+returns c = number-all _ _ (c .before .before .before .args .s .now) _ _ (omega arith) (c .before .loop .inv .1)
+
+pub number-at-spec : {M : Type 1} → statement M
+number-at-spec =
+    tie.close
+    (tie.spec
+    Inv-loop
+    μ-loop
+    loop-holds
+    mul-n
+    add-byte-at
+    byte-at-requires
+    wide-requires
+    add-n
+    add-k
+    loop-less
+    loop-again
+    returns)
