@@ -2,8 +2,8 @@
 use mathlib.Core.Path.{_≡_, refl, sym, ap, ap₂, subst, _∙_}
 use mathlib.Core.Logic.{_≢_, _⊎_, inl, inr}
 use mathlib.Core.List.{List, [], _∷_, _++_, map, append-assoc, append-nil}
-use Prim.Native.Nat.{ℕ, zero, suc, _+_, _*_, _<_, suc-le-suc}
-use native.Mathlib.Nat.{le-of-suc-le-suc, not-suc-le-zero, zero-lt-suc, suc-ne-zero, suc-inj, zero-mul, suc-mul, add-comm}
+use Prim.Native.Nat.{ℕ, zero, suc, _+_, _*_, _≤_, _<_, zero-le, suc-le-suc}
+use native.Mathlib.Nat.{le-trans, le-of-eq, le-of-suc-le-suc, not-suc-le-zero, zero-lt-suc, suc-ne-zero, suc-inj, zero-mul, suc-mul, add-comm}
 use lib.ListN.{length, getD, take, length-append}
 use Rattle.algebra.specs.Several.{listed, end-to-end, All, In, Distinct}
 
@@ -111,3 +111,45 @@ end-to-end-length zero k f h = sym (zero-mul k)
 end-to-end-length (suc n) k f h =
     length-append (f zero) _ ∙ ap₂ _+_ (h zero (zero-lt-suc n)) (end-to-end-length n k (λ i. f (suc i)) (λ i l. h (suc i) (suc-le-suc l)))
     ∙ add-comm k (n * k) ∙ sym (suc-mul n k)
+
+-- one entry more at the end: what all have, what is among them, and that they are different
+pub all-more : {A : Type 0} (P : A → Type 0) (l : List A) (a : A) → All P l → P a → All P (l ++ (a ∷ []))
+all-more P [] a h p = (p, tt)
+all-more P (b ∷ l) a h p = (h .0, all-more P l a (h .1) p)
+
+pub in-more : {A : Type 0} (l : List A) (a b : A) → In b l → In b (l ++ (a ∷ []))
+in-more (c ∷ l) a b (inl e) = inl e
+in-more (c ∷ l) a b (inr i) = inr (in-more l a b i)
+
+pub in-last : {A : Type 0} (l : List A) (a : A) → In a (l ++ (a ∷ []))
+in-last [] a = inl refl
+in-last (b ∷ l) a = inr (in-last l a)
+
+pub distinct-more : {A : Type 0} (l : List A) (a : A) → Distinct l → All (λ b. a ≢ b) l → Distinct (l ++ (a ∷ []))
+distinct-more [] a d h = (tt, tt)
+distinct-more (b ∷ l) a d h = (all-more _ l a (d .0) (λ e. h .0 (sym e)), distinct-more l a (d .1) (h .1))
+
+-- a list without one of its entries
+without : {A : Type 0} (a : A) (l : List A) → In a l → List A
+without a (b ∷ l) (inl e) = l
+without a (b ∷ l) (inr i) = b ∷ without a l i
+
+without-length : {A : Type 0} (a : A) (l : List A) (i : In a l) → suc (length (without a l i)) ≡ length l
+unfolding without
+without-length a (b ∷ l) (inl e) = refl
+without-length a (b ∷ l) (inr i) = ap suc (without-length a l i)
+
+still : {A : Type 0} (a : A) (l : List A) (i : In a l) (b : A) → In b l → a ≢ b → In b (without a l i)
+unfolding without
+still a (c ∷ l) (inl e) b (inl q) ne = absurd (ne (e ∙ sym q))
+still a (c ∷ l) (inl e) b (inr j) ne = j
+still a (c ∷ l) (inr i) b (inl q) ne = inl q
+still a (c ∷ l) (inr i) b (inr j) ne = inr (still a l i b j ne)
+
+-- different entries that all stand in another list are no more than it has
+pub distinct-within : {A : Type 0} (l k : List A) → Distinct l → All (λ a. In a k) l → length l ≤ length k
+distinct-within [] k d h = zero-le
+distinct-within (a ∷ l) k d h =
+    le-trans (suc-le-suc (distinct-within l (without a k (h .0)) (d .1) (all-both (λ b ne i. still a k (h .0) b i ne) l (d .0) (h .1))))
+    (le-of-eq (without-length a k (h .0)))
+
