@@ -19,23 +19,23 @@ module _ (l : List ℕ) (v at number : ℕ) (ev : v ≡ version-of l) (ea : at �
   unfolding check-head-of
   check-fields L m n seed eL em e es =
       λ i.
-        record {
-          version = ev i;
-          number = en i;
-          length = (eL ∙ ap (λ (p : ℕ). number-at 4 p l) place) i;
-          m = (em ∙ ap (λ (p : ℕ). getD l (p + 4) 0) place) i;
-          n = (e ∙ ap (λ (p : ℕ). getD l (p + 5) 0) place) i;
-          seed = (es ∙ ap (λ (p : ℕ). column-at (p + 6) l) place) i;
-        }
+      record {
+        version = ev i;
+        number = en i;
+        length = (eL ∙ ap (λ (p : ℕ). number-at 4 p l) place) i;
+        m = (em ∙ ap (λ (p : ℕ). getD l (p + 4) 0) place) i;
+        n = (e ∙ ap (λ (p : ℕ). getD l (p + 5) 0) place) i;
+        seed = (es ∙ ap (λ (p : ℕ). column-at (p + 6) l) place) i;
+      }
 
   pub fragment-fields : (index F : ℕ) → index ≡ getD l at 0 → F ≡ number-at 4 (at + 1) l
       → record { version = v; number = number; index = index; size = F } ≡ fragment-head-of l
   unfolding fragment-head-of
   fragment-fields index F ei eF =
       λ i.
-        record {
-          version = ev i;
-          number = en i;
-          index = (ei ∙ ap (λ (p : ℕ). getD l p 0) place) i;
-          size = (eF ∙ ap (λ (p : ℕ). number-at 4 (p + 1) l) place) i;
-        }
+      record {
+        version = ev i;
+        number = en i;
+        index = (ei ∙ ap (λ (p : ℕ). getD l p 0) place) i;
+        size = (eF ∙ ap (λ (p : ℕ). number-at 4 (p + 1) l) place) i;
+      }

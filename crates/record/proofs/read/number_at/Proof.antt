@@ -35,8 +35,12 @@ add-n : tie.Need-add-n Inv-loop μ-loop
 add-n c =
     let start = c .before .before .before .before .before in
     let loop = c .before .before .before .loop in
-    omega (arith, c .wide .ensures, c .before .byte-at .ok,
-      number-fits (loop .k) (start .args .at) (start .args .s .now) (λ i. c .before .before .before .before .shared-slice-known .given i .fits) (omega arith))
+    omega (
+      arith,
+      c .wide .ensures,
+      c .before .byte-at .ok,
+      number-fits (loop .k) (start .args .at) (start .args .s .now) (λ i. c .before .before .before .before .shared-slice-known .given i .fits) (omega arith),
+    )
 
 add-k : tie.Need-add-k Inv-loop μ-loop
 add-k c = search needs

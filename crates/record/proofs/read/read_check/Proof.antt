@@ -44,7 +44,7 @@ column-at-requires c κs = omega (arith, head-below (c .before .before .before .
 returns : tie.Need-returns
 returns c =
     check-fields (c .before .before .before .before .before .before .before .before .args .check .now) _ _ _ (c .before .before .before .before .before .before .version-of .ensures) (c .before .before .before .before .before .head .ensures) (c .before .before .before .before .number-at .ensures)
-      _ _ _ _ (c .before .before .before .number-at2 .ensures) (c .before .before .byte-at .ensures) (c .before .byte-at2 .ensures) (c .column-at .ensures)
+    _ _ _ _ (c .before .before .before .number-at2 .ensures) (c .before .before .byte-at .ensures) (c .before .byte-at2 .ensures) (c .column-at .ensures)
 
 pub read-check-spec : {M : Type 1} → statement M
 read-check-spec =

@@ -33,7 +33,7 @@ cast-t8 c =
 returns : tie.Need-returns
 returns c =
     fragment-fields (c .before .before .before .before .before .before .args .fragment .now) _ _ _ (c .before .before .before .before .version-of .ensures) (c .before .before .before .head .ensures) (c .before .before .number-at .ensures)
-      _ _ (c .before .byte-at .ensures) (c .number-at2 .ensures)
+    _ _ (c .before .byte-at .ensures) (c .number-at2 .ensures)
 
 pub read-fragment-spec : {M : Type 1} → statement M
 read-fragment-spec =

@@ -28,7 +28,7 @@ check-length-requires c κs = search needs
 returns : tie.Need-returns
 returns c =
     check-shaped-test (c .before .before .before .before .before .before .before .before .args .check .now) (c .before .before .before .before .before .before .read-check .result) _ _ _ (c .before .before .before .before .before .before .read-check .ensures)
-      (c .before .before .before .before .before .hashes-place .ensures) (c .before .before .counts-fit .ensures) (c .check-length .ensures)
+    (c .before .before .before .before .before .hashes-place .ensures) (c .before .before .counts-fit .ensures) (c .check-length .ensures)
 
 pub check-shaped-spec : {M : Type 1} → statement M
 check-shaped-spec =

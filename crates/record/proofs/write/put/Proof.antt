@@ -35,8 +35,7 @@ loop-less c = search needs
 loop-again : tie.Need-loop-again Inv-loop μ-loop
 loop-again c =
     let loop = c .before .before .loop in
-    let start = c .before .before .before .before in
-    (
+    let start = c .before .before .before .before in (
       omega arith,
       loop .inv .1,
       length-set (loop .out) (loop .k) _ ∙ loop .inv .2,

@@ -68,7 +68,7 @@ returns c =
     let start = c .before .before .before .before .before .before .before .before in
     c .before .before .put .ensures
     ∙ ap (λ (bytes : List ℕ). put bytes (start .args .out .now))
-        (front-bytes (start .args .t2) _ _ _ _ (omega arith) (c .before .before .before .before .before .before .digits .ensures) (c .before .before .before .before .before .digits2 .ensures))
+    (front-bytes (start .args .t2) _ _ _ _ (omega arith) (c .before .before .before .before .before .before .digits .ensures) (c .before .before .before .before .before .digits2 .ensures))
 
 pub put-front-spec : {M : Type 1} → statement M
 put-front-spec =

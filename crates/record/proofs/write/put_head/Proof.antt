@@ -43,7 +43,7 @@ returns-3 : tie.Need-returns-3
 returns-3 c =
     let start = c .before .before .before .before .before .before .before .before .before .before .before .before .before in
     head-written (start .args .mark) (start .args .fields .now) (start .args .out .now) _ _ _ (omega arith) (c .before .before .before .before .before .before .before .before .before .before .head .ensures)
-      (c .before .before .before .before .before .before .put-front .last .0) (c .before .before .put .last .0) (omega arith) (c .before .before .before .before .before .before .put-front .ensures) (c .before .before .put .ensures)
+    (c .before .before .before .before .before .before .put-front .last .0) (c .before .before .put .last .0) (omega arith) (c .before .before .before .before .before .before .put-front .ensures) (c .before .before .put .ensures)
 
 pub put-head-spec : {M : Type 1} → statement M
 put-head-spec =
