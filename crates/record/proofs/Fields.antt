@@ -4,8 +4,6 @@ use mathlib.Core.List.{List}
 use Prim.Native.Nat.{ℕ, _+_}
 use lib.ListN.{getD}
 use Rattle.column.specs.declared.Column.{Column}
-use Rattle.record.specs.declared.CheckHead.{CheckHead}
-use Rattle.record.specs.declared.FragmentHead.{FragmentHead}
 use Rattle.record.specs.Layout.{number-at, column-at, number-place, head}
 use Rattle.record.specs.Heads.{version-of, check-head-of, fragment-head-of}
 

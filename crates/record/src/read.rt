@@ -32,7 +32,7 @@ fn wide(x: u8) -> u64
 }
 
 // The number that `count` bytes from `at` on stand for.
-pub(crate) fn number_at(s: &[u8], count: usize, at: usize) -> u64
+fn number_at(s: &[u8], count: usize, at: usize) -> u64
     requires { ⌜ (count ≤ 8) × (at < 65536) ⌝ }
     ensures { λ r. ⌜ r ≡ layout.number-at count at (now (s .entry)) ⌝ }
 {

@@ -6,6 +6,7 @@ use crate::places::NUMBER_AT;
 use crate::places::body_place;
 use crate::places::check_length;
 use crate::places::hashes_place;
+use crate::places::known;
 use crate::places::record_length;
 use crate::read::byte_at;
 use crate::read::read_check;
@@ -13,19 +14,11 @@ use crate::read::read_fragment;
 use crate::read::version_of;
 ghost use mathlib.Core.Path.{_≡_};
 ghost use Rattle.record.specs.Heads as heads;
-ghost use Rattle.record.specs.Layout as layout;
 
 fn marked(mark: [u8; 3], s: &[u8]) -> bool
     ensures { λ r. ⌜ r ≡ heads.marked mark (now (s .entry)) ⌝ }
 {
     (byte_at(s, 0) == mark[0]) & ((byte_at(s, 1) == mark[1]) & (byte_at(s, 2) == mark[2]))
-}
-
-// The versions that are read.
-fn known(version: u16) -> bool
-    ensures { λ r. ⌜ r ≡ layout.known version ⌝ }
-{
-    version == 1
 }
 
 // 5 is given unless this holds.

@@ -1,3 +1,4 @@
+-- `write::put` meets its contract. The invariant: the first `k` bytes are copied, and the rest of the buffer is as it was.
 use Prim.Native.Nat.{_≤_, _-_}
 use mathlib.Core.Path.{_≡_, refl, sym, _∙_}
 use native.Mathlib.Omega.{arith}
