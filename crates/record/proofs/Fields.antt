@@ -4,8 +4,6 @@ use mathlib.Core.List.{List}
 use Prim.Native.Nat.{ℕ, _+_}
 use lib.ListN.{getD}
 use Rattle.column.specs.declared.Column.{Column}
-use Rattle.record.specs.declared.CheckHead.{CheckHead}
-use Rattle.record.specs.declared.FragmentHead.{FragmentHead}
 use Rattle.record.specs.Layout.{number-at, column-at, number-place, head}
 use Rattle.record.specs.Heads.{version-of, check-head-of, fragment-head-of}
 
@@ -19,23 +17,23 @@ module _ (l : List ℕ) (v at number : ℕ) (ev : v ≡ version-of l) (ea : at �
   unfolding check-head-of
   check-fields L m n seed eL em e es =
       λ i.
-        record {
-          version = ev i;
-          number = en i;
-          length = (eL ∙ ap (λ (p : ℕ). number-at 4 p l) place) i;
-          m = (em ∙ ap (λ (p : ℕ). getD l (p + 4) 0) place) i;
-          n = (e ∙ ap (λ (p : ℕ). getD l (p + 5) 0) place) i;
-          seed = (es ∙ ap (λ (p : ℕ). column-at (p + 6) l) place) i;
-        }
+      record {
+        version = ev i;
+        number = en i;
+        length = (eL ∙ ap (λ (p : ℕ). number-at 4 p l) place) i;
+        m = (em ∙ ap (λ (p : ℕ). getD l (p + 4) 0) place) i;
+        n = (e ∙ ap (λ (p : ℕ). getD l (p + 5) 0) place) i;
+        seed = (es ∙ ap (λ (p : ℕ). column-at (p + 6) l) place) i;
+      }
 
   pub fragment-fields : (index F : ℕ) → index ≡ getD l at 0 → F ≡ number-at 4 (at + 1) l
       → record { version = v; number = number; index = index; size = F } ≡ fragment-head-of l
   unfolding fragment-head-of
   fragment-fields index F ei eF =
       λ i.
-        record {
-          version = ev i;
-          number = en i;
-          index = (ei ∙ ap (λ (p : ℕ). getD l p 0) place) i;
-          size = (eF ∙ ap (λ (p : ℕ). number-at 4 (p + 1) l) place) i;
-        }
+      record {
+        version = ev i;
+        number = en i;
+        index = (ei ∙ ap (λ (p : ℕ). getD l p 0) place) i;
+        size = (eF ∙ ap (λ (p : ℕ). number-at 4 (p + 1) l) place) i;
+      }

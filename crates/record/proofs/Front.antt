@@ -29,20 +29,20 @@ front-then mark r v number =
 three : (l : List ℕ) → length l ≡ 3 → getD l 0 0 ∷ getD l 1 0 ∷ getD l 2 0 ∷ [] ≡ l
 three l e =
     sym
-      (drop-cons l 0 0 (omega arith)
-        ∙ ap (λ (r : List ℕ). getD l 0 0 ∷ r)
-            (drop-cons l 1 0 (omega arith)
-              ∙ ap (λ (r : List ℕ). getD l 1 0 ∷ r)
-                  (drop-cons l 2 0 (omega arith) ∙ ap (λ (r : List ℕ). getD l 2 0 ∷ r) (drop-of-length-le l {i = 3} (omega arith)))))
+    (drop-cons l 0 0 (omega arith)
+    ∙ ap (λ (r : List ℕ). getD l 0 0 ∷ r)
+    (drop-cons l 1 0 (omega arith)
+    ∙ ap (λ (r : List ℕ). getD l 1 0 ∷ r)
+    (drop-cons l 2 0 (omega arith) ∙ ap (λ (r : List ℕ). getD l 2 0 ∷ r) (drop-of-length-le l {i = 3} (omega arith)))))
 
 -- from the bytes of the mark and the eight of each number
 pub front-bytes : (mark ds es : List ℕ) (v number : ℕ) → length mark ≡ 3 → ds ≡ big 8 v → es ≡ big 8 number
     → getD mark 0 0 ∷ getD mark 1 0 ∷ getD mark 2 0 ∷ getD ds 6 0 ∷ getD ds 7 0 ∷ getD es 0 0 ∷ getD es 1 0 ∷ getD es 2 0 ∷ getD es 3 0
-      ∷ getD es 4 0 ∷ getD es 5 0 ∷ getD es 6 0 ∷ getD es 7 0 ∷ [] ≡ front mark v number
+    ∷ getD es 4 0 ∷ getD es 5 0 ∷ getD es 6 0 ∷ getD es 7 0 ∷ [] ≡ front mark v number
 unfolding big
 front-bytes mark ds es v number e p q =
     (λ i. getD mark 0 0 ∷ getD mark 1 0 ∷ getD mark 2 0 ∷ getD (p i) 6 0 ∷ getD (p i) 7 0 ∷ getD (q i) 0 0 ∷ getD (q i) 1 0 ∷ getD (q i) 2 0
-        ∷ getD (q i) 3 0 ∷ getD (q i) 4 0 ∷ getD (q i) 5 0 ∷ getD (q i) 6 0 ∷ getD (q i) 7 0 ∷ [])
+    ∷ getD (q i) 3 0 ∷ getD (q i) 4 0 ∷ getD (q i) 5 0 ∷ getD (q i) 6 0 ∷ getD (q i) 7 0 ∷ [])
     ∙ ap (λ (m : List ℕ). m ++ (big 2 v ++ big 8 number)) (three mark e)
 
 pub head-length : (mark fields : List ℕ) (v number : ℕ) → length mark ≡ 3
@@ -76,14 +76,14 @@ low-four ds r n e = λ i. getD (e i) 4 0 ∷ getD (e i) 5 0 ∷ getD (e i) 6 0 �
 
 pub check-bytes : (ds l : List ℕ) (v number L m n : ℕ) (seed : Column) → ds ≡ big 8 L
     → put (check-mark ++ (big 2 v ++ (big 8 number ++ (getD ds 4 0 ∷ getD ds 5 0 ∷ getD ds 6 0 ∷ getD ds 7 0 ∷ m ∷ n ∷ column-bytes seed)))) l
-      ≡ put (check-head v number L m n seed) l
+    ≡ put (check-head v number L m n seed) l
 unfolding check-head
 check-bytes ds l v number L m n seed e =
     ap (λ (r : List ℕ). put (check-mark ++ (big 2 v ++ (big 8 number ++ r))) l) (low-four ds (m ∷ n ∷ column-bytes seed) L e)
 
 pub fragment-bytes : (ds l : List ℕ) (v number index F : ℕ) → ds ≡ big 8 F
     → put (fragment-mark ++ (big 2 v ++ (big 8 number ++ (index ∷ getD ds 4 0 ∷ getD ds 5 0 ∷ getD ds 6 0 ∷ getD ds 7 0 ∷ [])))) l
-      ≡ put (fragment-head v number index F) l
+    ≡ put (fragment-head v number index F) l
 unfolding fragment-head
 fragment-bytes ds l v number index F e =
     ap (λ (r : List ℕ). put (fragment-mark ++ (big 2 v ++ (big 8 number ++ (index ∷ r)))) l) (low-four ds [] F e ∙ append-nil (big 4 F))

@@ -1,3 +1,4 @@
+pub mod Accepted
 pub mod Buffer
 pub mod Fields
 pub mod Front

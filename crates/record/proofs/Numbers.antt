@@ -46,10 +46,13 @@ number-back (suc k) n at a b h e =
   where
     high : n / 256 < 256 ^ k
     high = div-lt-iff-lt-mul (lit< tt) .1 (rw pow-suc at h)
+
     split : a ++ (big k (n / 256) ++ (n % 256 ∷ []) ++ b) ≡ a ++ (big k (n / 256) ++ (n % 256 ∷ b))
     split = ap (λ (l : List ℕ). a ++ l) (append-assoc (big k (n / 256)) (n % 256 ∷ []) b)
+
     before : length (a ++ big k (n / 256)) ≡ at + k
     before = length-append a (big k (n / 256)) ∙ ap₂ (λ (x y : ℕ). x + y) e (big-length k (n / 256))
+
     last : getD (a ++ (big k (n / 256) ++ (n % 256 ∷ []) ++ b)) (at + k) 0 ≡ n % 256
     last =
         ap (λ (l : List ℕ). getD l (at + k) 0) (split ∙ sym (append-assoc a (big k (n / 256)) (n % 256 ∷ b)))

@@ -49,7 +49,7 @@ unfolding fragment-shaped
 fragment-shaped-test version F l h at whole mark e p q r =
     (λ i. leb (p i) (length l) && (q i && (eqb (h .version) version && (eqb (h .size) F && eqb (length l) (r i)))))
     ∙ ap (λ (b : Bool). leb (body-place version) (length l) && (marked fragment-mark l && (eqb (h .version) version && b)))
-        (either-side (h .size) F (λ s. eqb (length l) (record-length version s)))
+    (either-side (h .size) F (λ s. eqb (length l) (record-length version s)))
     ∙ ap shaped e
   where
     shaped : FragmentHead → Bool

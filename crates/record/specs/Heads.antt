@@ -1,5 +1,5 @@
 -- Reading the records: their fields, and the conditions under which they are refused by 5, 6 and 8.
-use mathlib.Core.Bool.{Bool, true, false, _&&_}
+use mathlib.Core.Bool.{Bool, _&&_}
 use mathlib.Core.List.{List}
 use Prim.Native.Nat.{ℕ}
 use lib.Dec.{eqb, leb}

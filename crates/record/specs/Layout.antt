@@ -1,10 +1,10 @@
 -- The two records of document 01: where each field stands, how it is written, and how it is read. What depends on the version
 -- goes through `head`; every other place counts from there.
-use mathlib.Core.Bool.{Bool, true, false, _&&_}
+use mathlib.Core.Bool.{Bool}
 use mathlib.Core.List.{List, [], _∷_, _++_}
 use Prim.Native.Nat.{ℕ, zero, suc, _+_, _*_, _/_, _%_}
 use lib.Dec.{eqb}
-use lib.ListN.{length, getD}
+use lib.ListN.{getD}
 use Rattle.column.specs.declared.Column.{Column}
 
 -- "Numbers are big-endian": the k bytes of a number

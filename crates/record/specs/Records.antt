@@ -1,5 +1,5 @@
 -- The two records, byte by byte, from their fields.
-use mathlib.Core.List.{List, [], _∷_, _++_}
+use mathlib.Core.List.{List, _∷_, _++_}
 use Prim.Native.Nat.{ℕ}
 use lib.ListN.{length}
 use Rattle.column.specs.declared.Column.{Column}

@@ -1,7 +1,11 @@
-// Where the parts of the two records stand. What depends on the version goes through `head`; every other place counts from there.
+// The versions, and where the parts of the two records stand. What depends on the version goes through `head`; every other place counts
+// from there.
 ghost use mathlib.Core.Path.{_≡_};
 ghost use Prim.Native.Nat.{_+_, _*_};
 ghost use Rattle.record.specs.Layout as layout;
+
+// The version that new records have.
+pub const WRITTEN_VERSION: u16 = 1;
 
 // In every version.
 pub(crate) const CHECK_MARK: [u8; 3] = [b'L', b'C', b'K'];
@@ -29,6 +33,13 @@ const BODY_BEHIND: usize = 5;
 const HASH_BYTES: usize = 32;
 
 const PRINT_BYTES: usize = 3;
+
+// The versions that are read.
+pub(crate) fn known(version: u16) -> bool
+    ensures { λ r. ⌜ r ≡ layout.known version ⌝ }
+{
+    version == 1
+}
 
 // How many bytes stand before the fields that follow the block number.
 pub(crate) fn head(version: u16) -> usize

@@ -1,5 +1,4 @@
 // The records' fields, read. What lies past the end of a record reads as zero.
-use column::Column;
 use crate::CheckHead;
 use crate::FragmentHead;
 use crate::places::M_BEHIND;
@@ -9,6 +8,7 @@ use crate::places::SEED_BEHIND;
 use crate::places::SIZE_BEHIND;
 use crate::places::VERSION_AT;
 use crate::places::head;
+use column::Column;
 ghost use mathlib.Core.Path.{_≡_};
 ghost use Prim.Native.Nat.{_+_, _<_, _≤_};
 ghost use lib.ListN.{getD};
@@ -32,7 +32,7 @@ fn wide(x: u8) -> u64
 }
 
 // The number that `count` bytes from `at` on stand for.
-pub(crate) fn number_at(s: &[u8], count: usize, at: usize) -> u64
+fn number_at(s: &[u8], count: usize, at: usize) -> u64
     requires { ⌜ (count ≤ 8) × (at < 65536) ⌝ }
     ensures { λ r. ⌜ r ≡ layout.number-at count at (now (s .entry)) ⌝ }
 {

@@ -1,10 +1,12 @@
-// The tests by which a cut refuses by 1, and a record is refused by 5, 6 and 8. Each reads nothing that it has not tested to be there.
+// The tests by which a cut refuses by 1, and a record is refused by 5, 6 and 8.
+// Every test is total, so each is made whatever the others say: `&`, not `&&`, and a function is one equation, with no exits.
 use crate::places::CHECK_MARK;
 use crate::places::FRAGMENT_MARK;
 use crate::places::NUMBER_AT;
 use crate::places::body_place;
 use crate::places::check_length;
 use crate::places::hashes_place;
+use crate::places::known;
 use crate::places::record_length;
 use crate::read::byte_at;
 use crate::read::read_check;
@@ -12,26 +14,18 @@ use crate::read::read_fragment;
 use crate::read::version_of;
 ghost use mathlib.Core.Path.{_≡_};
 ghost use Rattle.record.specs.Heads as heads;
-ghost use Rattle.record.specs.Layout as layout;
 
-fn marked(mark: &[u8; 3], s: &[u8]) -> bool
-    ensures { λ r. ⌜ r ≡ heads.marked (now (mark .entry)) (now (s .entry)) ⌝ }
+fn marked(mark: [u8; 3], s: &[u8]) -> bool
+    ensures { λ r. ⌜ r ≡ heads.marked mark (now (s .entry)) ⌝ }
 {
     (byte_at(s, 0) == mark[0]) & ((byte_at(s, 1) == mark[1]) & (byte_at(s, 2) == mark[2]))
-}
-
-// The versions that are read.
-fn known(version: u16) -> bool
-    ensures { λ r. ⌜ r ≡ layout.known version ⌝ }
-{
-    version == 1
 }
 
 // 5 is given unless this holds.
 pub fn check_marked(check: &[u8]) -> bool
     ensures { λ r. ⌜ r ≡ heads.check-marked (now (check .entry)) ⌝ }
 {
-    (NUMBER_AT <= check.len()) & (marked(&CHECK_MARK, check) & known(version_of(check)))
+    (NUMBER_AT <= check.len()) & (marked(CHECK_MARK, check) & known(version_of(check)))
 }
 
 // 1 is given unless this holds of a cut's counts, 6 unless it holds of a record's.
@@ -58,7 +52,8 @@ pub fn fragment_shaped(version: u16, size: usize, fragment: &[u8]) -> bool
 {
     let head = read_fragment(fragment);
     (body_place(version) <= fragment.len())
-        & (marked(&FRAGMENT_MARK, fragment)
+        & (marked(FRAGMENT_MARK, fragment)
             & ((head.version == version)
-                & ((head.size as usize == size) & (fragment.len() == record_length(version, head.size)))))
+                & ((head.size as usize == size)
+                    & (fragment.len() == record_length(version, head.size)))))
 }

@@ -53,7 +53,24 @@ fn put_front(out: &mut [u8], mark: [u8; 3], version: u16, number: u64)
 {
     let v = digits(version as u64);
     let d = digits(number);
-    put(out, &[mark[0], mark[1], mark[2], v[6], v[7], d[0], d[1], d[2], d[3], d[4], d[5], d[6], d[7]]);
+    put(
+        out,
+        &[
+            mark[0],
+            mark[1],
+            mark[2],
+            v[6],
+            v[7],
+            d[0],
+            d[1],
+            d[2],
+            d[3],
+            d[4],
+            d[5],
+            d[6],
+            d[7],
+        ],
+    );
 }
 
 // What every record starts with, and the fields behind it, where all of it fits.
@@ -76,7 +93,17 @@ pub fn write_check_head(out: &mut [u8], head: CheckHead)
 {
     let l = digits(head.length as u64);
     let seed = head.seed;
-    let fields = [l[4], l[5], l[6], l[7], head.m, head.n, seed.a, seed.b, seed.c];
+    let fields = [
+        l[4],
+        l[5],
+        l[6],
+        l[7],
+        head.m,
+        head.n,
+        seed.a,
+        seed.b,
+        seed.c,
+    ];
     put_head(out, CHECK_MARK, head.version, head.number, &fields);
 }
 

@@ -1,3 +1,4 @@
+-- `read::number_at` meets its contract. The invariant is the definition: `n` is the number that the first `k` bytes stand for.
 use Prim.Native.Nat.{_≤_, _-_}
 use mathlib.Core.Path.{_≡_, _∙_}
 use native.Mathlib.Omega.{arith}
@@ -20,7 +21,8 @@ loop-holds c = search needs
 mul-n : tie.Need-mul-n Inv-loop μ-loop
 mul-n c =
     let start = c .before .before .before in
-    omega (arith, number-fits (c .before .loop .k) (start .args .at) (start .args .s .now) (λ i. c .before .before .shared-slice-known .given i .fits) (omega arith))
+    let known = c .before .before .shared-slice-known in
+    omega (arith, number-fits (c .before .loop .k) (start .args .at) (start .args .s .now) (λ i. known .given i .fits) (omega arith))
 
 add-byte-at : tie.Need-add-byte-at Inv-loop μ-loop
 add-byte-at c = search needs
@@ -35,8 +37,12 @@ add-n : tie.Need-add-n Inv-loop μ-loop
 add-n c =
     let start = c .before .before .before .before .before in
     let loop = c .before .before .before .loop in
-    omega (arith, c .wide .ensures, c .before .byte-at .ok,
-      number-fits (loop .k) (start .args .at) (start .args .s .now) (λ i. c .before .before .before .before .shared-slice-known .given i .fits) (omega arith))
+    omega (
+      arith,
+      c .wide .ensures,
+      c .before .byte-at .ok,
+      number-fits (loop .k) (start .args .at) (start .args .s .now) (λ i. c .before .before .before .before .shared-slice-known .given i .fits) (omega arith),
+    )
 
 add-k : tie.Need-add-k Inv-loop μ-loop
 add-k c = search needs

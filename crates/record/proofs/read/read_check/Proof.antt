@@ -21,7 +21,12 @@ number-at-requires-2 c κs = omega (arith, head-below (c .before .before .versio
 
 cast-t6 : tie.Need-cast-t6
 cast-t6 c =
-    omega (arith, c .number-at2 .ensures, number-below 4 (c .before .before .head .result) (c .before .before .before .before .before .args .check .now) (λ i. c .before .before .before .before .shared-slice-known .given i .fits))
+    let known = c .before .before .before .before in
+    omega (
+      arith,
+      c .number-at2 .ensures,
+      number-below 4 (c .before .before .head .result) (known .before .args .check .now) (λ i. known .shared-slice-known .given i .fits),
+    )
 
 add-byte-at : tie.Need-add-byte-at
 add-byte-at c = omega (arith, head-below (c .before .before .before .version-of .result))
@@ -43,8 +48,13 @@ column-at-requires c κs = omega (arith, head-below (c .before .before .before .
 
 returns : tie.Need-returns
 returns c =
-    check-fields (c .before .before .before .before .before .before .before .before .args .check .now) _ _ _ (c .before .before .before .before .before .before .version-of .ensures) (c .before .before .before .before .before .head .ensures) (c .before .before .before .before .number-at .ensures)
-      _ _ _ _ (c .before .before .before .number-at2 .ensures) (c .before .before .byte-at .ensures) (c .before .byte-at2 .ensures) (c .column-at .ensures)
+    let block = c .before .before .before .before in
+    let version = block .before .before in
+    check-fields (version .before .before .args .check .now) _ _ _ (version .version-of .ensures) (block .before .head .ensures) (block .number-at .ensures)
+    _ _ _ _ (c .before .before .before .number-at2 .ensures)
+    (c .before .before .byte-at .ensures)
+    (c .before .byte-at2 .ensures)
+    (c .column-at .ensures)
 
 pub read-check-spec : {M : Type 1} → statement M
 read-check-spec =

@@ -28,12 +28,20 @@ number-at-requires-2 c κs = omega (arith, head-below (c .before .before .before
 
 cast-t8 : tie.Need-cast-t8
 cast-t8 c =
-    omega (arith, c .number-at2 .ensures, number-below 4 (c .before .before .before .head .result + 1) (c .before .before .before .before .before .before .args .fragment .now) (λ i. c .before .before .before .before .before .shared-slice-known .given i .fits))
+    let known = c .before .before .before .before .before in
+    omega (
+      arith,
+      c .number-at2 .ensures,
+      number-below 4 (c .before .before .before .head .result + 1) (known .before .args .fragment .now) (λ i. known .shared-slice-known .given i .fits),
+    )
 
 returns : tie.Need-returns
 returns c =
-    fragment-fields (c .before .before .before .before .before .before .args .fragment .now) _ _ _ (c .before .before .before .before .version-of .ensures) (c .before .before .before .head .ensures) (c .before .before .number-at .ensures)
-      _ _ (c .before .byte-at .ensures) (c .number-at2 .ensures)
+    let block = c .before .before in
+    let version = block .before .before in
+    fragment-fields (version .before .before .args .fragment .now) _ _ _ (version .version-of .ensures) (block .before .head .ensures) (block .number-at .ensures)
+    _ _ (c .before .byte-at .ensures)
+    (c .number-at2 .ensures)
 
 pub read-fragment-spec : {M : Type 1} → statement M
 read-fragment-spec =

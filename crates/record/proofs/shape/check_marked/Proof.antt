@@ -15,7 +15,7 @@ known-requires c κs = search needs
 
 returns : tie.Need-returns
 returns c =
-    check-marked-test (c .before .before .before .before .before .args .check .now) _ _ _ (c .before .before .marked .ensures) (c .before .version-of .ensures) (c .known .ensures)
+    check-marked-test (c .before .before .before .before .args .check .now) _ _ _ (c .before .before .marked .ensures) (c .before .version-of .ensures) (c .known .ensures)
 
 pub check-marked-spec : {M : Type 1} → statement M
 check-marked-spec = tie.close (tie.spec marked-requires version-of-requires known-requires returns)

@@ -27,8 +27,11 @@ check-length-requires c κs = search needs
 
 returns : tie.Need-returns
 returns c =
-    check-shaped-test (c .before .before .before .before .before .before .before .before .args .check .now) (c .before .before .before .before .before .before .read-check .result) _ _ _ (c .before .before .before .before .before .before .read-check .ensures)
-      (c .before .before .before .before .before .hashes-place .ensures) (c .before .before .counts-fit .ensures) (c .check-length .ensures)
+    let read = c .before .before .before .before .before .before in
+    check-shaped-test (read .before .before .args .check .now) (read .read-check .result) _ _ _ (read .read-check .ensures)
+    (c .before .before .before .before .before .hashes-place .ensures)
+    (c .before .before .counts-fit .ensures)
+    (c .check-length .ensures)
 
 pub check-shaped-spec : {M : Type 1} → statement M
 check-shaped-spec =

@@ -21,8 +21,11 @@ record-length-requires c κs = search needs
 
 returns : tie.Need-returns
 returns c =
-    fragment-shaped-test _ _ (c .before .before .before .before .before .before .before .before .args .fragment .now) (c .before .before .before .before .before .before .read-fragment .result) _ _ _ (c .before .before .before .before .before .before .read-fragment .ensures)
-      (c .before .before .before .before .before .body-place .ensures) (c .before .before .before .marked .ensures) (c .record-length .ensures)
+    let read = c .before .before .before .before .before in
+    fragment-shaped-test _ _ (read .before .before .args .fragment .now) (read .read-fragment .result) _ _ _ (read .read-fragment .ensures)
+    (c .before .before .before .before .body-place .ensures)
+    (c .before .before .before .marked .ensures)
+    (c .record-length .ensures)
 
 pub fragment-shaped-spec : {M : Type 1} → statement M
 fragment-shaped-spec =

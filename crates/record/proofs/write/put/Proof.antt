@@ -1,3 +1,4 @@
+-- `write::put` meets its contract. The invariant: the first `k` bytes are copied, and the rest of the buffer is as it was.
 use Prim.Native.Nat.{_≤_, _-_}
 use mathlib.Core.Path.{_≡_, refl, sym, _∙_}
 use native.Mathlib.Omega.{arith}
@@ -35,8 +36,7 @@ loop-less c = search needs
 loop-again : tie.Need-loop-again Inv-loop μ-loop
 loop-again c =
     let loop = c .before .before .loop in
-    let start = c .before .before .before .before in
-    (
+    let start = c .before .before .before .before in (
       omega arith,
       loop .inv .1,
       length-set (loop .out) (loop .k) _ ∙ loop .inv .2,

@@ -65,10 +65,11 @@ same-length c = search needs
 
 returns : tie.Need-returns
 returns c =
-    let start = c .before .before .before .before .before .before .before .before in
+    let digits = c .before .before .before .before .before .before in
+    let args = digits .before .before .args in
     c .before .before .put .ensures
-    ∙ ap (λ (bytes : List ℕ). put bytes (start .args .out .now))
-        (front-bytes (start .args .t2) _ _ _ _ (omega arith) (c .before .before .before .before .before .before .digits .ensures) (c .before .before .before .before .before .digits2 .ensures))
+    ∙ ap (λ (bytes : List ℕ). put bytes (args .out .now))
+    (front-bytes (args .t2) _ _ _ _ (omega arith) (digits .digits .ensures) (c .before .before .before .before .before .digits2 .ensures))
 
 pub put-front-spec : {M : Type 1} → statement M
 put-front-spec =

@@ -10,16 +10,16 @@ head-requires c κs = search needs
 
 returns : tie.Need-returns
 returns c =
-    let start = c .before .before .before .before in
-    head-short (start .args .mark) (start .args .fields .now) (start .args .out .now) _ _ _ (omega arith) (c .before .head .ensures) (omega arith)
+    let args = c .before .before .before .before .args in
+    head-short (args .mark) (args .fields .now) (args .out .now) _ _ _ (omega arith) (c .before .head .ensures) (omega arith)
 
 sub-if2 : tie.Need-sub-if2
 sub-if2 c = search needs
 
 returns-2 : tie.Need-returns-2
 returns-2 c =
-    let start = c .before .before .before .before .before in
-    head-short (start .args .mark) (start .args .fields .now) (start .args .out .now) _ _ _ (omega arith) (c .before .before .head .ensures) (omega arith)
+    let args = c .before .before .before .before .before .args in
+    head-short (args .mark) (args .fields .now) (args .out .now) _ _ _ (omega arith) (c .before .before .head .ensures) (omega arith)
 
 put-front-requires : tie.Need-put-front-requires
 put-front-requires c κs = search needs
@@ -41,9 +41,11 @@ same-length c = search needs
 
 returns-3 : tie.Need-returns-3
 returns-3 c =
-    let start = c .before .before .before .before .before .before .before .before .before .before .before .before .before in
-    head-written (start .args .mark) (start .args .fields .now) (start .args .out .now) _ _ _ (omega arith) (c .before .before .before .before .before .before .before .before .before .before .head .ensures)
-      (c .before .before .before .before .before .before .put-front .last .0) (c .before .before .put .last .0) (omega arith) (c .before .before .before .before .before .before .put-front .ensures) (c .before .before .put .ensures)
+    let front = c .before .before .before .before .before .before in
+    let place = front .before .before .before .before in
+    let args = place .before .before .before .args in
+    head-written (args .mark) (args .fields .now) (args .out .now) _ _ _ (omega arith) (place .head .ensures)
+    (front .put-front .last .0) (c .before .before .put .last .0) (omega arith) (front .put-front .ensures) (c .before .before .put .ensures)
 
 pub put-head-spec : {M : Type 1} → statement M
 put-head-spec =

@@ -34,7 +34,8 @@ same-length c = search needs
 
 returns : tie.Need-returns
 returns c =
-    c .before .before .put-head .ensures ∙ check-bytes _ (c .before .before .before .before .before .before .before .before .before .args .out .now) _ _ _ _ _ _ (c .before .before .before .before .before .before .digits .ensures)
+    let digits = c .before .before .before .before .before .before in
+    c .before .before .put-head .ensures ∙ check-bytes _ (digits .before .before .before .args .out .now) _ _ _ _ _ _ (digits .digits .ensures)
 
 pub write-check-head-spec : {M : Type 1} → statement M
 write-check-head-spec =
