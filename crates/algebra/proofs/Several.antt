@@ -152,4 +152,3 @@ distinct-within [] k d h = zero-le
 distinct-within (a ∷ l) k d h =
     le-trans (suc-le-suc (distinct-within l (without a k (h .0)) (d .1) (all-both (λ b ne i. still a k (h .0) b i ne) l (d .0) (h .1))))
     (le-of-eq (without-length a k (h .0)))
-

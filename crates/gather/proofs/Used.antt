@@ -77,17 +77,19 @@ module _ (wanted : ℕ) (check records : List ℕ) where
         different = subst Distinct (sym (indexes-more us _)) (distinct-more (indexes us) _ (s .different) (index-missed _ us (parts .2)));
         at-most = subst (λ (n : ℕ). n ≤ m) (sym more) (lt-of-le-of-ne (s .at-most) (eqb-false _ _ (parts .0)));
         seen = λ h j l a. subst (In (answer-at j .value)) (sym (indexes-more us _))
-          (⊎-elim (λ e. subst (λ (i : ℕ). In (answer-at i .value) (indexes us ++ (answer-at k .value ∷ []))) (sym e) (in-last (indexes us) _))
-            (λ g. in-more (indexes us) _ _ (s .seen (lt-trans (lt-suc-self (length us)) (subst (λ (n : ℕ). n < m) more h)) j g a)) (last-or-before j k l))
+            (⊎-elim (λ e. subst (λ (i : ℕ). In (answer-at i .value) (indexes us ++ (answer-at k .value ∷ []))) (sym e) (in-last (indexes us) _))
+            (λ g. in-more (indexes us) _ _ (s .seen (lt-trans (lt-suc-self (length us)) (subst (λ (n : ℕ). n < m) more h)) j g a)) (last-or-before j k l));
       }
     where
       more : length (us ++ (record { index = answer-at k .value; place = k } ∷ [])) ≡ suc (length us)
       more = length-append us _ ∙ add-one (length us)
+
       three : (a b c : Bool) → not a && (b && not c) ≡ true → (a ≡ false) × (b ≡ true) × (c ≡ false)
       three false true false e = (refl, refl, refl)
       three false true true e = absurd (false≢true e)
       three false false c e = absurd (false≢true e)
       three true b c e = absurd (false≢true e)
+
       parts : (eqb (length us) m ≡ false) × (eqb (answer-at k .number) 0 ≡ true) × (has-index (answer-at k .value) us ≡ false)
       parts = three _ _ _ t
 
@@ -100,9 +102,9 @@ module _ (wanted : ℕ) (check records : List ℕ) where
         different = s .different;
         at-most = s .at-most;
         seen = λ h j l a. ⊎-elim
-          (λ e. subst (λ (i : ℕ). In (answer-at i .value) (indexes us)) (sym e)
+            (λ e. subst (λ (i : ℕ). In (answer-at i .value) (indexes us)) (sym e)
             (index-found _ us (had _ _ _ t (ne-eqb _ _ (ne-of-lt h)) (eq-eqb _ _ (subst (λ (i : ℕ). answer-at i .number ≡ 0) e a)))))
-          (λ g. s .seen h j g a) (last-or-before j k l)
+            (λ g. s .seen h j g a) (last-or-before j k l);
       }
     where
       had : (a b c : Bool) → not a && (b && not c) ≡ false → a ≡ false → b ≡ true → c ≡ true
@@ -118,6 +120,7 @@ module _ (wanted : ℕ) (check records : List ℕ) where
     where
       us : List Used
       us = used wanted check records k
+
       go : (b : Bool) → takes k us ≡ b → Sound k us → Sound (suc k) (cond b (us ++ (record { index = answer-at k .value; place = k } ∷ [])) us)
       go true e s = one-used k us s e
       go false e s = none-more k us s e
