@@ -142,23 +142,36 @@ module _ (m n seed number : ℕ) (block : List ℕ) (within : Within m n seed nu
     unfolding print-agrees cut.body-of
     printed =
         ap (λ (h : CheckHead). columns .same (fingerprint-at (h .seed) B) (called-for (h .m) i (columns-of (drop (prints-place (h .version) (h .n)) C))))
-          head-is
+        head-is
         ∙ ap (λ (ps : List Column). columns .same (fingerprint-at (from-seed seed) B) (called-for m i ps)) prints
         ∙ ap (columns .same (fingerprint-at (from-seed seed) B))
-          (sym (own-match m F m≤ block (within .bytes) i (lt-of-lt-of-le below n≤) (from-seed seed) (seed-column seed (within .seed-fits))))
+        (sym (own-match m F m≤ block (within .bytes) i (lt-of-lt-of-le below n≤) (from-seed seed) (seed-column seed (within .seed-fits))))
         ∙ column-self (fingerprint-at (from-seed seed) B)
 
     every : All Holds (conditions number C R)
     unfolding conditions
-    every =
-        (marked-is,
-        (shaped-is whole,
-        (ap (λ (h : CheckHead). eqb (h .number) number) head-is ∙ eq-eqb number number refl,
-        ((λ j. fragment-shaped (head-is j .version) (size-is j) R) ∙ shaped,
-        (ap (λ (h : FragmentHead). eqb (h .number) number) fragment-is ∙ eq-eqb number number refl,
-        ((λ j. ltb (fragment-is j .index) (head-is j .n)) ∙ lt-ltb i n below,
-        ((λ j. hash-agrees C (fragment-is j .index) (body-is j)) ∙ hashed,
-        ((λ j. print-agrees C (fragment-is j .index) (body-is j)) ∙ printed, tt))))))))
+    every = (
+      marked-is,
+      (
+        shaped-is whole,
+        (
+          ap (λ (h : CheckHead). eqb (h .number) number) head-is ∙ eq-eqb number number refl,
+          (
+            (λ j. fragment-shaped (head-is j .version) (size-is j) R) ∙ shaped,
+            (
+              ap (λ (h : FragmentHead). eqb (h .number) number) fragment-is ∙ eq-eqb number number refl,
+              (
+                (λ j. ltb (fragment-is j .index) (head-is j .n)) ∙ lt-ltb i n below,
+                (
+                  (λ j. hash-agrees C (fragment-is j .index) (body-is j)) ∙ hashed,
+                  ((λ j. print-agrees C (fragment-is j .index) (body-is j)) ∙ printed, tt),
+                ),
+              ),
+            ),
+          ),
+        ),
+      ),
+    )
 
     -- accepted, with its index
     pub accepted-as : checked number C R ≡ accepted i

@@ -33,6 +33,7 @@ filled-bytes m F block h = more block (m * F - length block) h
     zeros : (z : ℕ) → All Small (replicate z 0)
     zeros zero = tt
     zeros (suc z) = (lit< tt, zeros z)
+
     more : (l : List ℕ) (z : ℕ) → All Small l → All Small (l ++ replicate z 0)
     more [] z h = zeros z
     more (a ∷ l) z h = (h .0, more l z (h .1))
@@ -42,7 +43,7 @@ pub filled-body : (m F : ℕ) (block : List ℕ) (i : ℕ) → body m F (filled 
 unfolding body byte-of source filled
 filled-body m F block i =
     listed-same F _ _ (λ p h. ap (λ (ys : List ℕ). value bytes (interpolate bytes inverse (points m) ys) i)
-      (map-same _ _ (points m) (all-of _ (points m) (λ j q. past-end block (m * F - length block) (j * F + p)))))
+    (map-same _ _ (points m) (all-of _ (points m) (λ j q. past-end block (m * F - length block) (j * F + p)))))
 
 pub filled-length : (m F : ℕ) (block : List ℕ) → length block ≤ m * F → length (filled m F block) ≡ m * F
 unfolding filled
@@ -54,7 +55,7 @@ pub joined-same : (m F : ℕ) (is : List ℕ) (f g : ℕ → List ℕ) → All (
 unfolding joined regained
 joined-same m F is f g e =
     listed-same (m * F) _ _ (λ k h. ap (λ (ys : List ℕ). value bytes (interpolate bytes inverse is ys) (k / F))
-      (map-same _ _ is (all-of _ is (λ i q. ap (λ (l : List ℕ). getD l (k % F) 0) (all-at _ is e i q)))))
+    (map-same _ _ is (all-of _ is (λ i q. ap (λ (l : List ℕ). getD l (k % F) 0) (all-at _ is e i q)))))
 
 -- any m bodies of a block, with different indexes, give back the block filled
 pub any-filled : (m F : ℕ) → m ≤ 256 → (block : List ℕ) → All Small block → length block ≤ m * F
