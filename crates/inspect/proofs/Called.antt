@@ -16,14 +16,7 @@ use Rattle.record.specs.Layout.{prints-place}
 use Rattle.record.specs.Heads.{check-head-of, fragment-head-of}
 use Rattle.inspect.specs.Check.{same-bytes, body-of, hash-of, hash-agrees, print-agrees, conditions, checked}
 use Rattle.inspect.proofs.Exact.{accepted-exactly}
-
-both-left : (a b : Bool) → a && b ≡ true → a ≡ true
-both-left true b e = refl
-both-left false b e = absurd (false≢true e)
-
-both-right : (a b : Bool) → a && b ≡ true → b ≡ true
-both-right true b e = e
-both-right false b e = absurd (false≢true e)
+use Rattle.inspect.proofs.Shaped.{both-left, both-right}
 
 -- two lists are the same exactly where the test says so
 pub same-sound : (xs ys : List ℕ) → same-bytes xs ys ≡ true → xs ≡ ys

@@ -1,2 +1,5 @@
 pub mod Exact
+pub mod Shaped
 pub mod Called
+pub mod Agreeing
+pub mod Passing
