@@ -1,12 +1,13 @@
 // The check of one fragment against its check record, `check`, and the body of an accepted one, `open`.
-// Any bytes at all give a verdict: no function asks anything of its caller.
+// Any bytes at all give a verdict: no public function asks anything of its caller.
 mod agree;
 
 use agree::hash_agrees;
 use agree::print_agrees;
 ghost use mathlib.Core.Path.{_≡_};
+ghost use Prim.Native.Nat.{_+_};
 ghost use Rattle.inspect.specs.Answer.{answer};
-ghost use Rattle.inspect.specs.Check.{checked, opened};
+ghost use Rattle.inspect.specs.Check.{checked, opened, opened-place};
 
 // Why a fragment is refused, in document 01's order.
 pub enum Reason {
@@ -26,7 +27,7 @@ pub enum Verdict {
     Refused(Reason),
 }
 
-// The first reason of document 01's table that applies. Nothing is read of a record before its length is tested.
+// The first reason of document 01's table that applies. No length, byte or number is trusted before it is tested.
 pub fn check(wanted: u64, check: &[u8], fragment: &[u8]) -> Verdict
     ensures { λ r. ⌜ answer r ≡ checked wanted (now (check .entry)) (now (fragment .entry)) ⌝ }
 {
@@ -60,4 +61,18 @@ pub fn check(wanted: u64, check: &[u8], fragment: &[u8]) -> Verdict
         return Verdict::Refused(Reason::Fingerprint);
     }
     Verdict::Accepted(f.index)
+}
+
+// The body of an accepted fragment, a part of the lent record; where the check refuses, the empty part at the record's start.
+pub fn open<'a>(wanted: u64, check: &[u8], fragment: &'a [u8]) -> &'a [u8]
+    ensures bytes { λ r. ⌜ now r ≡ opened wanted (now (check .entry)) (now (fragment .entry)) ⌝ }
+    ensures place { λ r. ⌜ (r .ptr .0 ≡ fragment .entry .ptr .0) × (r .ptr .1 ≡ fragment .entry .ptr .1 + opened-place wanted (now (check .entry)) (now (fragment .entry))) ⌝ }
+{
+    match crate::check(wanted, check, fragment) {
+        Verdict::Accepted(_) => {
+            let at = record::body_place(record::read_check(check).version);
+            &fragment[at..]
+        }
+        Verdict::Refused(_) => &fragment[..0],
+    }
 }
