@@ -1,5 +1,6 @@
 pub mod Bodies
 pub mod Lengths
+pub mod Longest
 pub mod Plain
 pub mod Spreads
 pub mod Sums

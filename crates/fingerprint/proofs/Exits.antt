@@ -14,7 +14,7 @@ use Rattle.fingerprint.specs.Fingerprint.{columns-of, fingerprint-at}
 use Rattle.fingerprint.specs.Horner.{table-of, evaluated}
 use Rattle.fingerprint.specs.Answer.{refused, fingerprinted}
 use Rattle.fingerprint.proofs.Packing.{Bytes}
-use Rattle.fingerprint.proofs.Lookups.{evaluated-fingerprint}
+use Rattle.fingerprint.proofs.Lookups.{by-table}
 
 module _ (seed : ℕ) (body : List ℕ) where
   pub too-long : longest-body < length body → refused 2 ≡ fingerprinted seed body
@@ -38,6 +38,5 @@ module _ (seed : ℕ) (body : List ℕ) where
       unfolding fingerprinted
       done y z t u hy small h ey ez et eu =
           ap (λ (w : Column). record { number = 0; column = w })
-          (eu ∙ ap (λ (l : List ℕ). evaluated l y (columns-of body)) (et ∙ ap table-of ez) ∙ evaluated-fingerprint y hy body small
-          ∙ ap (λ (w : Column). fingerprint-at w body) ey)
+          (by-table y z t u body hy small ez et eu ∙ ap (λ (w : Column). fingerprint-at w body) ey)
           ∙ sym (simp (le-ltb _ _ fits, le-ltb _ _ known, eq-eqb _ _ h))

@@ -173,3 +173,9 @@ pub evaluated-fingerprint : (y : Column) → Bytes y → (body : List ℕ) → A
     → evaluated (table-of (times y y)) y (columns-of body) ≡ fingerprint-at y body
 unfolding fingerprint-at
 evaluated-fingerprint y hy body h = evaluated-value y hy (columns-of body) (columns-bytes body h)
+
+-- the same, step by step as the code goes
+pub by-table : (y z : Column) (t : List ℕ) (u : Column) (body : List ℕ) → Bytes y → All (λ n. n < 256) body
+    → z ≡ times y y → t ≡ table-of z → u ≡ evaluated t y (columns-of body) → u ≡ fingerprint-at y body
+by-table y z t u body hy small ez et eu =
+    eu ∙ ap (λ (l : List ℕ). evaluated l y (columns-of body)) (et ∙ ap table-of ez) ∙ evaluated-fingerprint y hy body small

@@ -13,17 +13,10 @@ use Rattle.column.proofs.Seed.{column-path}
 use Rattle.fingerprint.specs.Fingerprint.{columns-of, Matches}
 use Rattle.sha256.specs.Fips180.{SHA-256}
 use Rattle.record.specs.Layout.{prints-place}
-use Rattle.record.specs.Heads.{check-head-of, fragment-head-of}
-use Rattle.inspect.specs.Check.{same-bytes, body-of, hash-of, hash-agrees, print-agrees, conditions, checked}
+use Rattle.record.specs.Heads.{check-head-of, fragment-head-of, fragment-shaped}
+use Rattle.inspect.specs.Check.{same-bytes, size-of, body-of, hash-of, hash-agrees, print-agrees, conditions, checked}
 use Rattle.inspect.proofs.Exact.{accepted-exactly}
-
-both-left : (a b : Bool) → a && b ≡ true → a ≡ true
-both-left true b e = refl
-both-left false b e = absurd (false≢true e)
-
-both-right : (a b : Bool) → a && b ≡ true → b ≡ true
-both-right true b e = e
-both-right false b e = absurd (false≢true e)
+use Rattle.inspect.proofs.Shaped.{both-left, both-right}
 
 -- two lists are the same exactly where the test says so
 pub same-sound : (xs ys : List ℕ) → same-bytes xs ys ≡ true → xs ≡ ys
@@ -56,6 +49,10 @@ module _ (wanted : ℕ) (check fragment : List ℕ) (accepted : checked wanted c
   pub check-number : check-head-of check .number ≡ wanted
   unfolding conditions
   check-number = eqb-true _ _ (accepted-exactly wanted check fragment .0 accepted .1 .1 .0)
+
+  pub fragment-fits : fragment-shaped (check-head-of check .version) (size-of check) fragment ≡ true
+  unfolding conditions
+  fragment-fits = accepted-exactly wanted check fragment .0 accepted .1 .1 .1 .0
 
   pub index-below : index < check-head-of check .n
   unfolding conditions

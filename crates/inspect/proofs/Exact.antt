@@ -15,7 +15,7 @@ abbrev pub Holds : Condition → Type 0
 Holds c = c .holds ≡ true
 
 -- a condition that never fails, to read past the end of a list of them
-abbrev idle : Condition
+abbrev pub idle : Condition
 idle = record { holds = true; otherwise = refused 0 }
 
 -- condition k fails and no earlier one does
@@ -39,6 +39,13 @@ pub first-fails : (cs : List Condition) (done : Answer) (k : ℕ) → FirstFails
 first-fails [] done k h = absurd (true≢false (h .1))
 first-fails (c ∷ cs) done zero h = stopping c cs done (h .1)
 first-fails (c ∷ cs) done (suc k) h = passing c cs done (h .0 .0) ∙ first-fails cs done k (h .0 .1, h .1)
+
+-- one condition more that holds
+pub one-more : (cs : List Condition) (k : ℕ) → All Holds (take k cs) → Holds (getD cs k idle) → All Holds (take (suc k) cs)
+one-more [] zero h e = tt
+one-more [] (suc k) h e = tt
+one-more (c ∷ cs) zero h e = (e, tt)
+one-more (c ∷ cs) (suc k) h e = (h .0, one-more cs k (h .1) e)
 
 -- either all hold, or one is the first to fail
 pub first-of : (cs : List Condition) → All Holds cs ⊎ ((k : ℕ) × (k < length cs) × FirstFails cs k)

@@ -75,3 +75,8 @@ checked wanted check fragment = first-answer (conditions wanted check fragment) 
 -- "Opening an accepted record gives back its body; where the check refuses, it is the empty part at the record's start"
 unfoldable pub opened : ℕ → List ℕ → List ℕ → List ℕ
 opened wanted check fragment = elim (eqb (checked wanted check fragment .number) 0) [ true ↦ body-of check fragment | false ↦ [] ]
+
+-- where that part starts in the record
+unfoldable pub opened-place : ℕ → List ℕ → List ℕ → ℕ
+opened-place wanted check fragment =
+    elim (eqb (checked wanted check fragment .number) 0) [ true ↦ body-place (check-head-of check .version) | false ↦ 0 ]
