@@ -2,6 +2,8 @@
 //!
 //! Nothing checks these declarations against the source of `abi`, so they are few, and each is one line from its C form.
 
+pub mod second;
+
 use std::ffi::c_uchar;
 
 extern "C" {

@@ -1,0 +1,119 @@
+//! SHA-256 with a schedule of sixteen words in a ring, the functions by other identities than the standard's, and the constants
+//! computed from the primes' roots.
+
+fn is_prime(n: u64) -> bool {
+    n >= 2 && (2..n).take_while(|d| d * d <= n).all(|d| n % d != 0)
+}
+
+/// The first 32 bits of the fraction of the k-th root of n.
+fn root_fraction(n: u64, k: u32) -> u32 {
+    // The largest r with r^k <= n 2^(32 k), digit by digit; its lowest 32 bits are the fraction.
+    let power = |r: u128| (0..k).try_fold(1u128, |p, _| p.checked_mul(r));
+    let bound = (n as u128) << (32 * k);
+    let mut r = 0u128;
+    for bit in (0..40).rev() {
+        let next = r | 1 << bit;
+        if power(next).is_some_and(|p| p <= bound) {
+            r = next;
+        }
+    }
+    r as u32
+}
+
+pub struct Sha256 {
+    start: [u32; 8],
+    k: [u32; 64],
+}
+
+impl Sha256 {
+    pub fn new() -> Sha256 {
+        let primes: Vec<u64> = (2..).filter(|&n| is_prime(n)).take(64).collect();
+        Sha256 {
+            start: std::array::from_fn(|i| root_fraction(primes[i], 2)),
+            k: std::array::from_fn(|i| root_fraction(primes[i], 3)),
+        }
+    }
+
+    fn block(&self, state: &mut [u32; 8], block: &[u8]) {
+        let mut ring: [u32; 16] = std::array::from_fn(|i| {
+            u32::from_be_bytes(block[4 * i..4 * i + 4].try_into().unwrap())
+        });
+        let [mut a, mut b, mut c, mut d, mut e, mut f, mut g, mut h] = *state;
+        for t in 0..64 {
+            let at = t % 16;
+            if t >= 16 {
+                let (w1, w14) = (ring[(t + 1) % 16], ring[(t + 14) % 16]);
+                let s0 = w1.rotate_right(7) ^ w1.rotate_right(18) ^ (w1 >> 3);
+                let s1 = w14.rotate_right(17) ^ w14.rotate_right(19) ^ (w14 >> 10);
+                ring[at] = ring[at]
+                    .wrapping_add(s0)
+                    .wrapping_add(ring[(t + 9) % 16])
+                    .wrapping_add(s1);
+            }
+            let big1 = e.rotate_left(26) ^ e.rotate_left(21) ^ e.rotate_left(7);
+            let choose = g ^ (e & (f ^ g));
+            let t1 = h
+                .wrapping_add(big1)
+                .wrapping_add(choose)
+                .wrapping_add(self.k[t])
+                .wrapping_add(ring[at]);
+            let big0 = a.rotate_left(30) ^ a.rotate_left(19) ^ a.rotate_left(10);
+            let most = (a & b) | (c & (a | b));
+            (h, g, f, e) = (g, f, e, d.wrapping_add(t1));
+            (d, c, b, a) = (c, b, a, t1.wrapping_add(big0).wrapping_add(most));
+        }
+        for (s, v) in state.iter_mut().zip([a, b, c, d, e, f, g, h]) {
+            *s = s.wrapping_add(v);
+        }
+    }
+
+    pub fn digest(&self, message: &[u8]) -> [u8; 32] {
+        let mut state = self.start;
+        let mut blocks = message.chunks_exact(64);
+        for block in &mut blocks {
+            self.block(&mut state, block);
+        }
+        let mut end = blocks.remainder().to_vec();
+        end.push(0x80);
+        while end.len() % 64 != 56 {
+            end.push(0);
+        }
+        end.extend((message.len() as u64 * 8).to_be_bytes());
+        for block in end.chunks(64) {
+            self.block(&mut state, block);
+        }
+        let mut out = [0; 32];
+        for (bytes, word) in out.chunks_mut(4).zip(state) {
+            bytes.copy_from_slice(&word.to_be_bytes());
+        }
+        out
+    }
+}
+
+impl Default for Sha256 {
+    fn default() -> Self {
+        Sha256::new()
+    }
+}
+
+#[cfg(test)]
+mod tests {
+    use super::Sha256;
+
+    /// FIPS 180-4's own first word of each list of constants, and NIST's digest of "abc".
+    #[test]
+    fn constants_and_abc() {
+        let h = Sha256::new();
+        assert_eq!((h.start[0], h.start[7]), (0x6a09e667, 0x5be0cd19));
+        assert_eq!((h.k[0], h.k[63]), (0x428a2f98, 0xc67178f2));
+        let hex: String = h
+            .digest(b"abc")
+            .iter()
+            .map(|b| format!("{b:02x}"))
+            .collect();
+        assert_eq!(
+            hex,
+            "ba7816bf8f01cfea414140de5dae2223b00361a396177a9cb410ff61f20015ad"
+        );
+    }
+}
