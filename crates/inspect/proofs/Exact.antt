@@ -1,5 +1,5 @@
 -- A check accepts exactly where every condition holds, and refuses by r exactly where r's condition fails and no earlier one does.
-use mathlib.Core.Path.{_≡_, refl, sym, ap, subst, _∙_}
+use mathlib.Core.Path.{_≡_, refl, ap, subst, _∙_}
 use mathlib.Core.Logic.{_↔_, _⊎_, inl, inr}
 use mathlib.Core.Bool.{Bool, true, false, true≢false}
 use mathlib.Core.List.{List, [], _∷_}
@@ -8,7 +8,7 @@ use native.Mathlib.Nat.{zero-lt-suc, lt-of-lt-of-le, le-of-eq}
 use native.Mathlib.Omega.{arith}
 use lib.ListN.{length, getD, take}
 use Rattle.algebra.specs.Several.{All}
-use Rattle.inspect.specs.Answer.{Answer, accepted, refused}
+use Rattle.inspect.specs.Answer.{Answer, refused}
 use Rattle.inspect.specs.Check.{Condition, first-answer, conditions, checked}
 
 abbrev pub Holds : Condition → Type 0

@@ -1,12 +1,10 @@
 -- What is opened after an accepting verdict and after a refusing one, and where it lies.
 use mathlib.Core.Path.{_≡_, refl, sym, ap, _∙_}
-use mathlib.Core.Bool.{true, false}
+use mathlib.Core.Bool.{false}
 use mathlib.Core.List.{List, []}
 use Prim.Native.Nat.{ℕ, _-_, _≤_}
-use native.Mathlib.Omega.{arith}
 use lib.Dec.{eqb}
 use lib.ListN.{length, take, drop}
-use borrow.Author.Tests.{eq-eqb}
 use borrow.Rule.Slice.PartAt.{part-to-end}
 use Rattle.record.specs.declared.CheckHead.{CheckHead}
 use Rattle.record.specs.Layout.{body-place}
@@ -16,7 +14,7 @@ use Rattle.inspect.specs.declared.Reason.the-variants.{CheckMark, CheckS
 use Rattle.inspect.specs.declared.Verdict.{Verdict}
 use Rattle.inspect.specs.declared.Verdict.the-variants.{Accepted, Refused}
 use Rattle.inspect.specs.Answer.{Answer, reason-answer, answer}
-use Rattle.inspect.specs.Check.{size-of, body-of, checked, opened, opened-place}
+use Rattle.inspect.specs.Check.{body-of, checked, opened, opened-place}
 use Rattle.inspect.proofs.Shaped.{body-within}
 use Rattle.inspect.proofs.Called.{fragment-fits}
 

@@ -12,7 +12,7 @@ use Rattle.record.specs.declared.CheckHead.{CheckHead}
 use Rattle.record.specs.declared.FragmentHead.{FragmentHead}
 use Rattle.record.specs.Layout.{body-place}
 use Rattle.record.specs.Heads.{check-head-of, fragment-head-of, fragment-shaped}
-use Rattle.inspect.specs.Answer.{Answer, accepted}
+use Rattle.inspect.specs.Answer.{accepted}
 use Rattle.inspect.specs.Check.{size-of, body-of, conditions, checked}
 use Rattle.inspect.proofs.Exact.{Holds, idle, one-more, all-hold, first-fails}
 

@@ -9,7 +9,7 @@ use borrow.Author.Tests.{not-true, not-false, eq-eqb, ne-eqb, lt-ltb, le-ltb}
 use Rattle.limits.specs.Limits.{longest-body}
 use Rattle.record.specs.declared.FragmentHead.{FragmentHead}
 use Rattle.record.specs.Heads.{check-shaped, fragment-shaped}
-use Rattle.inspect.specs.Answer.{Answer, refused-with}
+use Rattle.inspect.specs.Answer.{refused-with}
 use Rattle.inspect.specs.Check.{hash-agrees, print-agrees, conditions, checked}
 use Rattle.inspect.proofs.Exact.{idle}
 use Rattle.inspect.proofs.Shaped.{size-fits, body-within, body-sized}
@@ -49,21 +49,19 @@ head-of c = c .before .before .before .before .before
 abbrev read-of : tie.After-struct-known4 → tie.After-read-fragment
 read-of c = c .before .before .before .before
 
--- the first k conditions hold; condition k holds or not; what is answered where it does not
+-- the first k conditions hold; condition k holds or not
 abbrev Held : tie.Start → ℕ → Type 0
 Held s k = Passed (s .args .wanted) (s .args .check .now) (s .args .fragment .now) k
 
 abbrev Holds : tie.Start → ℕ → Bool → Type 0
 Holds s k b = getD (conditions (s .args .wanted) (s .args .check .now) (s .args .fragment .now)) k idle .holds ≡ b
 
-abbrev Answers : tie.Start → Answer → Type 0
-Answers s a = a ≡ checked (s .args .wanted) (s .args .check .now) (s .args .fragment .now)
-
 pass : (s : tie.Start) (k : ℕ) → Held s k → Holds s k true → Held s (suc k)
 pass s = passes (s .args .wanted) (s .args .check .now) (s .args .fragment .now)
 
 stop : (s : tie.Start) (k : ℕ) → Held s k → Holds s k false
-    → Answers s (getD (conditions (s .args .wanted) (s .args .check .now) (s .args .fragment .now)) k idle .otherwise)
+    → getD (conditions (s .args .wanted) (s .args .check .now) (s .args .fragment .now)) k idle .otherwise
+    ≡ checked (s .args .wanted) (s .args .check .now) (s .args .fragment .now)
 stop s = stops (s .args .wanted) (s .args .check .now) (s .args .fragment .now)
 
 check-marked-requires : tie.Need-check-marked-requires
@@ -186,14 +184,13 @@ part-body-end c = search needs
 
 hash-agrees-requires : tie.Need-hash-agrees-requires
 hash-agrees-requires c κs =
-    let known = c .before .before .before in
-    let shape = read-of known .before in
+    let shape = read-of (c .before .before .before) .before in
     let head = head-of shape in (
       (head .read-check .ensures, shaped (head .before)),
       (
         c .before .before .if6 .left,
         subst (λ (k : ℕ). k ≤ longest-body)
-            (sym (c .before .before .before .before .before .before .before .before .before .before .body-length .ensures) ∙ sym (body-sized _ _ _ (fragment-good shape) _ (c .before .body-place .ensures)))
+            (sym (shape .before .before .body-length .ensures) ∙ sym (body-sized _ _ _ (fragment-good shape) _ (c .before .body-place .ensures)))
             (size-fits _ (shaped (head .before)) _ (head .read-check .ensures)),
       ),
     )
