@@ -1,1 +1,4 @@
 pub mod Used
+pub mod Reading
+pub mod Holding
+pub mod Places

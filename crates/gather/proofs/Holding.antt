@@ -1,0 +1,94 @@
+-- What is held of the used records: one record passed over, one more used, and whether an index is among them.
+use mathlib.Core.Path.{_≡_, refl, sym, ap, ap₂, _∙_}
+use mathlib.Core.Bool.{Bool, true, false, _||_}
+use mathlib.Core.List.{List, [], _∷_, _++_, map}
+use Prim.Native.Nat.{ℕ, zero, suc, _+_, _-_, _<_, _≤_}
+use native.Mathlib.Nat.{not-suc-le-zero, le-of-suc-le-suc}
+use native.Mathlib.Omega.{arith}
+use lib.Dec.{eqb}
+use lib.ListN.{length, getD, take, drop, set, replicate, length-append, length-map, drop-of-length-le}
+use lib.Seq.{append-snoc, set-at, take-at}
+use borrow.Author.Tests.{eq-eqb, ne-eqb}
+use Rattle.gather.specs.declared.Gathered.{Gathered}
+use Rattle.gather.specs.Gather.{Used, has-index, of-255, held}
+
+pub path : (g h : Gathered) → g .count ≡ h .count → g .read ≡ h .read → g .indexes ≡ h .indexes → g .places ≡ h .places → g ≡ h
+path g h p q r s = λ i. record { count = p i; read = q i; indexes = r i; places = s i }
+
+-- one number more
+of-255-more : (l : List ℕ) (x n : ℕ) → length l ≡ n → n < 255 → set (of-255 l) n x ≡ of-255 (l ++ (x ∷ []))
+unfolding of-255
+of-255-more l x n e h =
+    ap (λ (j : ℕ). set (l ++ replicate j 0) n x) room
+    ∙ set-at l 0 _ x n e
+    ∙ sym (append-snoc l x _)
+    ∙ ap (λ (j : ℕ). (l ++ (x ∷ [])) ++ replicate j 0) (sym rest)
+  where
+    room : 255 - length l ≡ suc (254 - n)
+    room = omega arith
+
+    rest : 255 - length (l ++ (x ∷ [])) ≡ 254 - n
+    rest = omega (arith, length-append l (x ∷ []))
+
+map-more : {A B : Type 0} (f : A → B) (l : List A) (a : A) → map f (l ++ (a ∷ [])) ≡ map f l ++ (f a ∷ [])
+map-more f [] a = refl
+map-more f (b ∷ l) a = ap (λ (k : List _). f b ∷ k) (map-more f l a)
+
+module _ (g : Gathered) (us : List Used) (is : g ≡ held us (g .read)) where
+  pub count-held : g .count ≡ length us
+  unfolding held
+  count-held = ap (λ (h : Gathered). h .count) is
+
+  -- the indexes that are held are those of the used records
+  pub indexes-held : take (g .count) (g .indexes) ≡ map (λ u. u .index) us
+  unfolding held of-255
+  indexes-held =
+      ap₂ take count-held (ap (λ (h : Gathered). h .indexes) is) ∙ take-at (map (λ u. u .index) us) _ (length us) (length-map us (λ u. u .index))
+
+  -- passed over, nothing else is held
+  pub held-passed : (r : Gathered) → r ≡ record { count = g .count; read = g .read + 1; indexes = g .indexes; places = g .places }
+      → (vs : List Used) → vs ≡ us → r ≡ held vs (g .read + 1)
+  unfolding held
+  held-passed r e vs same =
+      e
+      ∙ path _ (held us (g .read + 1)) count-held refl (ap (λ (h : Gathered). h .indexes) is) (ap (λ (h : Gathered). h .places) is)
+      ∙ ap (λ (ws : List Used). held ws (g .read + 1)) (sym same)
+
+  -- used, its index and its place are held behind the others
+  pub held-taken : (i : ℕ) → g .count < 255 → (r : Gathered)
+      → r ≡ record { count = g .count + 1; read = g .read + 1; indexes = set (g .indexes) (g .count) i; places = set (g .places) (g .count) (g .read) }
+      → (vs : List Used) → vs ≡ us ++ (record { index = i; place = g .read } ∷ []) → r ≡ held vs (g .read + 1)
+  unfolding held
+  held-taken i room r e vs more =
+      e
+      ∙ path _ (held (us ++ (u ∷ [])) (g .read + 1)) (ap (λ (n : ℕ). n + 1) count-held ∙ sym (length-append us (u ∷ []))) refl
+      (behind (λ v. v .index) (g .indexes) (ap (λ (h : Gathered). h .indexes) is))
+      (behind (λ v. v .place) (g .places) (ap (λ (h : Gathered). h .places) is))
+      ∙ ap (λ (ws : List Used). held ws (g .read + 1)) (sym more)
+    where
+      u : Used
+      u = record { index = i; place = g .read }
+
+      behind : (f : Used → ℕ) (l : List ℕ) → l ≡ of-255 (map f us) → set l (g .count) (f u) ≡ of-255 (map f (us ++ (u ∷ [])))
+      behind f l el =
+          ap (λ (k : List ℕ). set k (g .count) (f u)) el
+          ∙ of-255-more (map f us) (f u) (g .count) (length-map us f ∙ sym count-held) room
+          ∙ ap of-255 (sym (map-more f us u))
+
+-- looking for an index: it stands here, it does not, there are no more
+pub found-here : (i : ℕ) (us : List Used) (k : ℕ) → k < length us → getD (map (λ u. u .index) us) k 0 ≡ i → has-index i (drop k us) ≡ true
+unfolding has-index
+found-here i [] k l e = absurd (not-suc-le-zero l)
+found-here i (u ∷ us) zero l e = ap (λ (b : Bool). b || has-index i us) (eq-eqb i (u .index) (sym e))
+found-here i (u ∷ us) (suc k) l e = found-here i us k (le-of-suc-le-suc l) e
+
+pub not-here : (i : ℕ) (us : List Used) (k : ℕ) → k < length us → (getD (map (λ u. u .index) us) k 0 ≡ i → ⊥)
+    → has-index i (drop k us) ≡ has-index i (drop (suc k) us)
+unfolding has-index
+not-here i [] k l ne = absurd (not-suc-le-zero l)
+not-here i (u ∷ us) zero l ne = ap (λ (b : Bool). b || has-index i us) (ne-eqb i (u .index) (λ e. ne (sym e)))
+not-here i (u ∷ us) (suc k) l ne = not-here i us k (le-of-suc-le-suc l) ne
+
+pub nowhere : (i : ℕ) (us : List Used) (k : ℕ) → length us ≤ k → has-index i (drop k us) ≡ false
+unfolding has-index
+nowhere i us k h = ap (has-index i) (drop-of-length-le us h)
