@@ -4,6 +4,7 @@ use mathlib.Core.Bool.{Bool, true, false, _||_}
 use mathlib.Core.List.{List, [], _∷_, _++_, map}
 use Prim.Native.Nat.{ℕ, zero, suc, _+_, _-_, _<_, _≤_}
 use native.Mathlib.Nat.{not-suc-le-zero, le-of-suc-le-suc}
+use native.Mathlib.Numerals.{add-one}
 use native.Mathlib.Omega.{arith}
 use lib.Dec.{eqb}
 use lib.ListN.{length, getD, take, drop, set, replicate, length-append, length-map, drop-of-length-le}
@@ -75,20 +76,39 @@ module _ (g : Gathered) (us : List Used) (is : g ≡ held us (g .read)) where
           ∙ of-255-more (map f us) (f u) (g .count) (length-map us f ∙ sym count-held) room
           ∙ ap of-255 (sym (map-more f us u))
 
--- looking for an index: it stands here, it does not, there are no more
-pub found-here : (i : ℕ) (us : List Used) (k : ℕ) → k < length us → getD (map (λ u. u .index) us) k 0 ≡ i → has-index i (drop k us) ≡ true
-unfolding has-index
-found-here i [] k l e = absurd (not-suc-le-zero l)
-found-here i (u ∷ us) zero l e = ap (λ (b : Bool). b || has-index i us) (eq-eqb i (u .index) (sym e))
-found-here i (u ∷ us) (suc k) l e = found-here i us k (le-of-suc-le-suc l) e
+-- looking for an index from the first on: it is there exactly if it is from place k on
+abbrev pub Ahead : List ℕ → ℕ → ℕ → Type 0
+Ahead l i k = (us : List Used) → l ≡ map (λ u. u .index) us → has-index i us ≡ has-index i (drop k us)
 
-pub not-here : (i : ℕ) (us : List Used) (k : ℕ) → k < length us → (getD (map (λ u. u .index) us) k 0 ≡ i → ⊥)
+here : (i : ℕ) (us : List Used) (k : ℕ) → k < length us → getD (map (λ u. u .index) us) k 0 ≡ i → has-index i (drop k us) ≡ true
+unfolding has-index
+here i [] k l e = absurd (not-suc-le-zero l)
+here i (u ∷ us) zero l e = ap (λ (b : Bool). b || has-index i us) (eq-eqb i (u .index) (sym e))
+here i (u ∷ us) (suc k) l e = here i us k (le-of-suc-le-suc l) e
+
+later : (i : ℕ) (us : List Used) (k : ℕ) → k < length us → (getD (map (λ u. u .index) us) k 0 ≡ i → ⊥)
     → has-index i (drop k us) ≡ has-index i (drop (suc k) us)
 unfolding has-index
-not-here i [] k l ne = absurd (not-suc-le-zero l)
-not-here i (u ∷ us) zero l ne = ap (λ (b : Bool). b || has-index i us) (ne-eqb i (u .index) (λ e. ne (sym e)))
-not-here i (u ∷ us) (suc k) l ne = not-here i us k (le-of-suc-le-suc l) ne
+later i [] k l ne = absurd (not-suc-le-zero l)
+later i (u ∷ us) zero l ne = ap (λ (b : Bool). b || has-index i us) (ne-eqb i (u .index) (λ e. ne (sym e)))
+later i (u ∷ us) (suc k) l ne = later i us k (le-of-suc-le-suc l) ne
 
-pub nowhere : (i : ℕ) (us : List Used) (k : ℕ) → length us ≤ k → has-index i (drop k us) ≡ false
-unfolding has-index
-nowhere i us k h = ap (has-index i) (drop-of-length-le us h)
+module _ (l : List ℕ) (i k : ℕ) (ahead : Ahead l i k) where
+  as-long : (us : List Used) → l ≡ map (λ u. u .index) us → length us ≡ length l
+  as-long us e = sym (ap length e ∙ length-map us (λ u. u .index))
+
+  pub found : k < length l → getD l k 0 ≡ i → (us : List Used) → l ≡ map (λ u. u .index) us → true ≡ has-index i us
+  found h e us el =
+      sym (ahead us el ∙ here i us k (omega (arith, as-long us el)) (ap (λ (x : List ℕ). getD x k 0) (sym el) ∙ e))
+
+  pub not-yet : k < length l → (getD l k 0 ≡ i → ⊥) → Ahead l i (k + 1)
+  not-yet h ne us el =
+      ahead us el
+      ∙ later i us k (omega (arith, as-long us el)) (λ e. ne (ap (λ (x : List ℕ). getD x k 0) el ∙ e))
+      ∙ ap (λ (n : ℕ). has-index i (drop n us)) (sym (add-one k))
+
+  pub nowhere : length l ≤ k → (us : List Used) → l ≡ map (λ u. u .index) us → false ≡ has-index i us
+  unfolding has-index
+  nowhere h us el =
+      let end : length us ≤ k = omega (arith, as-long us el) in
+      sym (ahead us el ∙ ap (has-index i) (drop-of-length-le us end))

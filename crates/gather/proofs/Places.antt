@@ -34,5 +34,7 @@ module _ (check records : List ℕ) where
   pub part-is : (k size at end : ℕ) → size ≡ stride check → at ≡ k * size → end ≡ at + size
       → take (end - at) (drop at records) ≡ record-at check records k
   unfolding record-at
-  part-is k size at end es ea ee =
-      ap₂ (λ (n p : ℕ). take n (drop p records)) (omega arith) (ea ∙ ap (λ (s : ℕ). k * s) es)
+  part-is k size at end es ea ee = ap₂ (λ (n p : ℕ). take n (drop p records)) long (ea ∙ ap (λ (s : ℕ). k * s) es)
+    where
+      long : end - at ≡ stride check
+      long = omega arith

@@ -34,7 +34,7 @@ pub read-none : (m : ℕ) → read-count m [] 0 ≡ 0
 unfolding read-count last-place
 read-none m = go (eqb 0 m)
   where
-    go : (b : Bool) → cond b 0 0 ≡ 0
+    go : (b : Bool) → cond b 0 0 ≡ zero
     go true = refl
     go false = refl
 
@@ -55,10 +55,11 @@ module _ (wanted : ℕ) (check records : List ℕ) where
   -- once m are used nothing more is
   pub no-more : (k n : ℕ) → k ≤ n → length (us k) ≡ m → us n ≡ us k
   no-more k zero h full = ap us (omega arith)
-  no-more k (suc n) h full = ⊎-elim (λ e. ap us (sym e)) (λ l. later (le-of-suc-le-suc l)) (eq-or-lt-of-le h)
+  no-more k (suc n) h full =
+      ⊎-elim (λ e. ap us (sym e)) (λ l. still (no-more k n (le-of-suc-le-suc l) full)) (eq-or-lt-of-le h)
     where
-      later : k ≤ n → us (suc n) ≡ us k
-      later l = let same : us n ≡ us k = no-more k n l full in stays n (ap length same ∙ full) ∙ same
+      still : us n ≡ us k → us (suc n) ≡ us k
+      still same = stays n (ap length same ∙ full) ∙ same
 
   -- a refused record, and one whose index is there, are passed over
   pub refused-passes : (k : ℕ) → eqb (answer-at wanted check records k .number) 0 ≡ false → us (suc k) ≡ us k
