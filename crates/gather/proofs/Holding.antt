@@ -46,6 +46,11 @@ module _ (g : Gathered) (us : List Used) (is : g ≡ held us (g .read)) where
   indexes-held =
       ap₂ take count-held (ap (λ (h : Gathered). h .indexes) is) ∙ take-at (map (λ u. u .index) us) _ (length us) (length-map us (λ u. u .index))
 
+  pub count-within : g .count ≤ length (g .indexes)
+  unfolding held of-255
+  count-within =
+      omega (arith, count-held, length-map us (λ u. u .index), ap (λ (h : Gathered). length (h .indexes)) is, length-append (map (λ u. u .index) us) (replicate (255 - length (map (λ u. u .index) us)) 0))
+
   -- passed over, nothing else is held
   pub held-passed : (r : Gathered) → r ≡ record { count = g .count; read = g .read + 1; indexes = g .indexes; places = g .places }
       → (vs : List Used) → vs ≡ us → r ≡ held vs (g .read + 1)

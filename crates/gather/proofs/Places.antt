@@ -1,14 +1,14 @@
--- Where records lie: a stride is never zero and fits, and each of the records counted lies within them.
+-- Where records lie: a stride is never zero and fits, and each of the records counted lies within them. And m, a byte, is at most 255.
 use mathlib.Core.Path.{_≡_, refl, sym, ap, ap₂, subst, _∙_}
 use mathlib.Core.List.{List}
 use Prim.Native.Nat.{ℕ, suc, _+_, _-_, _*_, _/_, _^_, _<_, _≤_}
-use native.Mathlib.Nat.{div-le-self, le-div-iff-mul-le, suc-mul}
+use native.Mathlib.Nat.{lt-of-lt-of-le, div-le-self, le-div-iff-mul-le, suc-mul}
 use native.Mathlib.Omega.{arith}
-use lib.ListN.{length, take, drop}
+use lib.ListN.{length, getD, take, drop}
 use Rattle.code.specs.Cutting.{body-length}
 use Rattle.record.specs.declared.CheckHead.{CheckHead}
-use Rattle.record.specs.Layout.{head, body-place}
-use Rattle.record.specs.Heads.{check-head-of}
+use Rattle.record.specs.Layout.{head, m-place, body-place}
+use Rattle.record.specs.Heads.{version-of, check-head-of}
 use Rattle.inspect.specs.Check.{size-of}
 use Rattle.gather.specs.Gather.{stride, record-at, count-of}
 
@@ -26,10 +26,19 @@ pub some-stride : (check : List ℕ) → 0 < stride check
 unfolding stride head
 some-stride check = omega arith
 
+pub m-fits : (check : List ℕ) → ((i : ℕ) → getD check i 0 < 256) → check-head-of check .m ≤ 255
+unfolding check-head-of
+m-fits check bytes = omega (arith, bytes (m-place (version-of check)))
+
 module _ (check records : List ℕ) where
-  pub place-within : (k : ℕ) → k < count-of check records → k * stride check + stride check ≤ length records
+  pub place-within : (k size : ℕ) → size ≡ stride check → k < count-of check records → k * size + size ≤ length records
   unfolding count-of
-  place-within k h = subst (λ (n : ℕ). n ≤ length records) (suc-mul k (stride check)) (le-div-iff-mul-le (some-stride check) .0 h)
+  place-within k size e h =
+      subst (λ (n : ℕ). n ≤ length records) (ap (λ (s : ℕ). suc k * s) (sym e) ∙ suc-mul k size) (le-div-iff-mul-le (some-stride check) .0 h)
+
+  pub place-below : (k : ℕ) → k < count-of check records → k < length records
+  unfolding count-of
+  place-below k h = lt-of-lt-of-le h (div-le-self (length records) (stride check))
 
   pub part-is : (k size at end : ℕ) → size ≡ stride check → at ≡ k * size → end ≡ at + size
       → take (end - at) (drop at records) ≡ record-at check records k

@@ -100,11 +100,10 @@ module _ (wanted : ℕ) (check records : List ℕ) where
       go true = either (eqb (length (us k ++ (u ∷ []))) m)
       go false = read-missed m (us k) (suc k) l
 
-  -- so the count for all the records is known where m are used, or at the end
+  -- so the count among the first k stands for all the records, where m are used
   pub read-all : (k n : ℕ) → k ≤ n → length (us k) ≡ m → read-count m (us k) k ≡ k → read-count m (us n) n ≡ k
   unfolding read-count
-  read-all k n h full e =
-      ap (λ (l : List Used). read-count m l n) (no-more k n h full)
-      ∙ rw (eq-eqb _ _ full, read-count) refl
-      ∙ sym (rw (eq-eqb _ _ full, read-count) refl)
-      ∙ e
+  read-all k n h full e = ap (λ (l : List Used). read-count m l n) (no-more k n h full) ∙ whatever (us k) full n k ∙ e
+    where
+      whatever : (l : List Used) → length l ≡ m → (i j : ℕ) → read-count m l i ≡ read-count m l j
+      whatever l full i j = rw (eq-eqb _ _ full, read-count)
