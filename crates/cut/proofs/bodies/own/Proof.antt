@@ -1,12 +1,13 @@
+-- `bodies::own` meets its contract: a start and an end within the block.
+use native.Mathlib.Omega.{arith}
+use native.Mathlib.Nat.{mul-le-mul}
+use Rattle.cut.proofs.Sources.{own-part, place-fits}
 use borrow.Author.Needs.{needs}
 use Rattle.cut.proofs.bodies.own.Statement.{statement}
 use Rattle.cut.proofs.bodies.own.Tie as tie
-use Rattle.cut.proofs.bodies.own.Reads as reads
-use Rattle.cut.proofs.bodies.own.Lts as lts
-use Rattle.cut.proofs.bodies.shorter.Reads as shorter-reads
 
 mul-shorter : tie.Need-mul-shorter
-mul-shorter c = search needs
+mul-shorter c = record { fits = place-fits (c .before .args .j) (c .before .args .size) (c .before .fits .j .fits) (c .before .fits .size .fits) }
 
 shorter-requires : tie.Need-shorter-requires
 shorter-requires c κs = search needs
@@ -30,7 +31,7 @@ part-result-end : tie.Need-part-result-end
 part-result-end c = search needs
 
 returns : tie.Need-returns
-returns c = search needs
+returns c = own-part (c .before .before .before .before .args .block .now) _ _ _ _ (c .before .before .shorter .ensures) (c .before .shorter2 .ensures)
 
 pub own-spec : {M : Type 1} → statement M
 own-spec =

@@ -1,23 +1,30 @@
+-- `summary::write_hashes` meets its contract: 32 bytes for each body.
+use mathlib.Core.Path.{_≡_, refl, sym, ap, _∙_}
+use Prim.Native.Nat.{ℕ, _≤_, _+_, _-_, _*_}
+use lib.ListN.{length}
+use native.Mathlib.Omega.{arith}
+use Rattle.sha256.specs.declared.Hashed.{Hashed}
+use Rattle.sha256.specs.Fips180.{SHA-256}
+use Rattle.sha256.proofs.Lengths.{length-SHA-256, length-answered}
+use Rattle.record.specs.Layout.{written-version, record-length}
+use Rattle.cut.specs.Cut.{body-among}
+use Rattle.cut.proofs.Among.{hash-is}
+use Rattle.cut.proofs.Filling.{Filled, filled-none, filled-put, filled-all, within}
 use borrow.Author.Needs.{needs}
 use Rattle.cut.proofs.summary.write_hashes.Statement.{statement}
 use Rattle.cut.proofs.summary.write_hashes.Tie as tie
-use Rattle.cut.proofs.summary.write_hashes.Reads as reads
-use Rattle.cut.proofs.summary.write_hashes.Lts as lts
-use Rattle.cut.proofs.summary.body_among.Reads as body-among-reads
-use Rattle.record.proofs.put.Reads as put-reads
-use Rattle.sha256.proofs.sha256.Reads as sha256-reads
 
 abbrev Inv-loop : tie.InvT-loop
-Inv-loop out₀ n size fragments i₀ out i = ?
+Inv-loop out₀ n size fragments i₀ out i = (i ≤ n) × Filled 32 (λ k. SHA-256 (body-among size fragments k)) i out₀ out
 
 abbrev μ-loop : tie.MeasureT-loop
-μ-loop out₀ n size fragments i₀ out i = ?
+μ-loop out₀ n size fragments i₀ out i = n - i
 
 loop-holds : tie.Need-loop-holds Inv-loop μ-loop
-loop-holds c = search needs
+loop-holds c = (omega arith, filled-none 32 _ (λ i. length-SHA-256 _) (c .before .before .args .out .now))
 
 body-among-requires : tie.Need-body-among-requires Inv-loop μ-loop
-body-among-requires c κs = search needs
+body-among-requires c κs = omega (arith, within (record-length written-version (c .before .before .before .before .args .size)) _ _ (c .loop-test .taken))
 
 sha256-requires : tie.Need-sha256-requires Inv-loop μ-loop
 sha256-requires c κs = search needs
@@ -38,10 +45,10 @@ part-put-start : tie.Need-part-put-start Inv-loop μ-loop
 part-put-start c = search needs
 
 part-put-end : tie.Need-part-put-end Inv-loop μ-loop
-part-put-end c = search needs
+part-put-end c = omega (arith, c .before .before .before .before .loop .inv .1 .long)
 
 slice-aggregate-put : tie.Need-slice-aggregate-put Inv-loop μ-loop
-slice-aggregate-put c = search needs
+slice-aggregate-put c = sym (ap (λ (h : Hashed). length (h .digest)) (c .before .before .before .sha256 .ensures) ∙ length-answered _)
 
 put-requires : tie.Need-put-requires Inv-loop μ-loop
 put-requires c κs = search needs
@@ -53,13 +60,24 @@ loop-less : tie.Need-loop-less Inv-loop μ-loop
 loop-less c = search needs
 
 loop-again : tie.Need-loop-again Inv-loop μ-loop
-loop-again c = search needs
+loop-again c =
+    let b6 = c .before .before .before .before .before .before in
+    let b8 = b6 .before .before in
+    let loop = b8 .before .loop in
+    let start = b8 .before .before .before .before in
+    (
+      omega arith,
+      filled-put 32 _ (λ i. length-SHA-256 _) _ (start .args .out .now) (omega arith) (loop .i) (loop .out) (b6 .sha256 .result .digest) (c .before .before .put .last .0) (32 * loop .i) (32 * loop .i + 32)
+        (b8 .loop-test .taken) (omega arith) refl (loop .inv .1)
+        (hash-is (start .args .size) (start .args .fragments .now) (loop .i) (b6 .before .body-among .result .now) (b6 .before .body-among .ensures) (start .pre .0 .1) (b6 .sha256 .result) (b6 .sha256 .ensures))
+        (c .before .before .put .ensures),
+    )
 
 same-length : tie.Need-same-length Inv-loop μ-loop
-same-length c = search needs
+same-length c = c .before .loop .inv .1 .long
 
 returns : tie.Need-returns Inv-loop μ-loop
-returns c = search needs
+returns c = filled-all 32 _ (λ i. length-SHA-256 _) _ (c .before .before .before .before .args .out .now) (omega arith) (c .before .loop .i) (c .before .loop .out) (omega arith) (c .before .loop .inv .1)
 
 pub write-hashes-spec : {M : Type 1} → statement M
 write-hashes-spec =

@@ -1,19 +1,24 @@
+-- `summary::write_prints` meets its contract: three bytes for each of the first bodies.
+use mathlib.Core.Path.{_≡_, refl, ap}
+use Prim.Native.Nat.{ℕ, _≤_, _+_, _-_, _*_}
+use lib.ListN.{length}
+use native.Mathlib.Omega.{arith}
+use Rattle.column.specs.declared.Column.{Column}
+use Rattle.code.proofs.Walks.{all-small}
+use Rattle.fingerprint.specs.Fingerprint.{fingerprint-at}
+use Rattle.record.specs.Layout.{written-version, record-length, column-bytes}
+use Rattle.cut.specs.Cut.{body-among}
+use Rattle.cut.proofs.Among.{print-is}
+use Rattle.cut.proofs.Filling.{Filled, filled-none, filled-put, filled-all, within}
 use borrow.Author.Needs.{needs}
 use Rattle.cut.proofs.summary.write_prints.Statement.{statement}
 use Rattle.cut.proofs.summary.write_prints.Tie as tie
-use Rattle.cut.proofs.summary.write_prints.Reads as reads
-use Rattle.cut.proofs.summary.write_prints.Lts as lts
-use Rattle.column.proofs.Column.times.Reads as times-reads
-use Rattle.cut.proofs.summary.body_among.Reads as body-among-reads
-use Rattle.fingerprint.proofs.evaluated.Reads as evaluated-reads
-use Rattle.fingerprint.proofs.table.Reads as table-reads
-use Rattle.record.proofs.put.Reads as put-reads
 
 abbrev Inv-loop : tie.InvT-loop
-Inv-loop out₀ m size y fragments table j₀ out j = ?
+Inv-loop out₀ m size y fragments table j₀ out j = (j ≤ m) × Filled 3 (λ k. column-bytes (fingerprint-at y (body-among size fragments k))) j out₀ out
 
 abbrev μ-loop : tie.MeasureT-loop
-μ-loop out₀ m size y fragments table j₀ out j = ?
+μ-loop out₀ m size y fragments table j₀ out j = m - j
 
 times-requires : tie.Need-times-requires Inv-loop μ-loop
 times-requires c κs = search needs
@@ -22,10 +27,10 @@ table-requires : tie.Need-table-requires Inv-loop μ-loop
 table-requires c κs = search needs
 
 loop-holds : tie.Need-loop-holds Inv-loop μ-loop
-loop-holds c = search needs
+loop-holds c = (omega arith, filled-none 3 _ (λ i. refl) (c .before .before .before .before .args .out .now))
 
 body-among-requires : tie.Need-body-among-requires Inv-loop μ-loop
-body-among-requires c κs = search needs
+body-among-requires c κs = omega (arith, within (record-length written-version (c .before .before .before .before .before .before .before .args .size)) _ _ (c .before .loop-test .taken))
 
 evaluated-requires : tie.Need-evaluated-requires Inv-loop μ-loop
 evaluated-requires c κs = search needs
@@ -46,7 +51,7 @@ part-put-start : tie.Need-part-put-start Inv-loop μ-loop
 part-put-start c = search needs
 
 part-put-end : tie.Need-part-put-end Inv-loop μ-loop
-part-put-end c = search needs
+part-put-end c = omega (arith, c .before .before .before .before .loop .inv .1 .long)
 
 slice-aggregate-put : tie.Need-slice-aggregate-put Inv-loop μ-loop
 slice-aggregate-put c = search needs
@@ -61,13 +66,28 @@ loop-less : tie.Need-loop-less Inv-loop μ-loop
 loop-less c = search needs
 
 loop-again : tie.Need-loop-again Inv-loop μ-loop
-loop-again c = search needs
+loop-again c =
+    let b5 = c .before .before .before .before .before in
+    let b8 = b5 .before .before .before in
+    let loop = b8 .before .loop in
+    let b11 = b8 .before .before .before in
+    let start = b11 .before .before .before in
+    (
+      omega arith,
+      filled-put 3 _ (λ i. refl) _ (start .args .out .now) (omega arith) (loop .j) (loop .out) _ (c .before .before .put .last .0) (3 * loop .j) (3 * loop .j + 3)
+        (b8 .loop-test .taken) (omega arith) refl (loop .inv .1)
+        (ap column-bytes
+          (print-is (start .args .size) (start .args .fragments .now) (loop .j) (b5 .before .body-among .result .now) (b5 .before .body-among .ensures) (start .args .y) _ (b5 .evaluated .result) (b8 .before .before .table .result)
+            (omega (arith, start .good)) (all-small (start .args .fragments .now) (λ k. b11 .before .shared-slice-known .given k .fits)) (b11 .times .ensures)
+            (b8 .before .before .table .ensures) (b5 .evaluated .ensures)))
+        (c .before .before .put .ensures),
+    )
 
 same-length : tie.Need-same-length Inv-loop μ-loop
-same-length c = search needs
+same-length c = c .before .loop .inv .1 .long
 
 returns : tie.Need-returns Inv-loop μ-loop
-returns c = search needs
+returns c = filled-all 3 _ (λ i. refl) _ (c .before .before .before .before .before .before .args .out .now) (omega arith) (c .before .loop .j) (c .before .loop .out) (omega arith) (c .before .loop .inv .1)
 
 pub write-prints-spec : {M : Type 1} → statement M
 write-prints-spec =
