@@ -48,12 +48,16 @@ module _ (size : ℕ) (f : ℕ → List ℕ) (fit : (i : ℕ) → length (f i) �
       where
         parts : List ℕ
         parts = end-to-end (listed k f)
+
         rest : List ℕ
         rest = drop (k * size) before
+
         count : end - at ≡ size
         count = omega arith
+
         next : k * size + size ≡ (k + 1) * size
         next = sym (ap (λ (j : ℕ). j * size) (add-one k) ∙ suc-mul k size)
+
         done : putMid at (end - at) out part ≡ end-to-end (listed (k + 1) f) ++ drop ((k + 1) * size) before
         done =
             (λ i. putMid (ea i) (count i) (F .done i) (e i))
@@ -62,10 +66,18 @@ module _ (size : ℕ) (f : ℕ → List ℕ) (fit : (i : ℕ) → length (f i) �
             ∙ sym (append-assoc parts (f k) (drop (k * size + size) before))
             ∙ ap₂ (λ (l : List ℕ) (j : ℕ). l ++ drop j before)
             (sym (end-to-end-more k f) ∙ ap (λ (j : ℕ). end-to-end (listed j f)) (sym (add-one k))) next
+
         more-length : length (end-to-end (listed (k + 1) f) ++ drop ((k + 1) * size) before) ≡ length before
         more-length =
-            omega (arith, length-append (end-to-end (listed (k + 1) f)) (drop ((k + 1) * size) before), parts-length (k + 1),
-            length-drop ((k + 1) * size) before, within size n k h, next, whole)
+            omega (
+              arith,
+              length-append (end-to-end (listed (k + 1) f)) (drop ((k + 1) * size) before),
+              parts-length (k + 1),
+              length-drop ((k + 1) * size) before,
+              within size n k h,
+              next,
+              whole,
+            )
 
     -- one part more, copied into its place
     pub filled-put : (k : ℕ) (out bytes part : List ℕ) (at end : ℕ) → k < n → at ≡ k * size → end ≡ at + size → Filled size f k before out → bytes ≡ f k

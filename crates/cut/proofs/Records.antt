@@ -62,6 +62,7 @@ module _ (v number i : ℕ) where
     where
       head : List ℕ
       head = fragment-head v number i F
+
       long : length head ≡ body-place v
       long = fragment-head-length v number i F []
 
@@ -165,8 +166,14 @@ module _ (m n seed number L : ℕ) (bodies : ℕ → List ℕ) where
   pub check-of-length : length (check-of m n seed number L bodies) ≡ check-length written-version m n
   check-of-length =
       ap length parts
-      ∙ omega (arith, length-append head-of (hashes-of n bodies ++ prints-of m (from-seed seed) bodies),
-      length-append (hashes-of n bodies) (prints-of m (from-seed seed) bodies), head-long, hashes-length n bodies, prints-length m (from-seed seed) bodies)
+      ∙ omega (
+        arith,
+        length-append head-of (hashes-of n bodies ++ prints-of m (from-seed seed) bodies),
+        length-append (hashes-of n bodies) (prints-of m (from-seed seed) bodies),
+        head-long,
+        hashes-length n bodies,
+        prints-length m (from-seed seed) bodies,
+      )
 
   -- hash i
   pub hash-back : (i : ℕ) → i < n → take 32 (drop (hashes-place written-version + 32 * i) (check-of m n seed number L bodies)) ≡ SHA-256 (bodies i)

@@ -19,7 +19,7 @@ pub body-length-fits : (L m : ℕ) → L ≤ longest-block → 1 ≤ m → body-
 unfolding body-length
 body-length-fits L m hL hm =
     let columns : (L + (3 * m - 1)) / (3 * m) < 21847 =
-        div-lt-iff-lt-mul {k = 3 * m} {x = L + (3 * m - 1)} {y = 21847} (omega arith) .1 (omega arith) in
+    div-lt-iff-lt-mul {k = 3 * m} {x = L + (3 * m - 1)} {y = 21847} (omega arith) .1 (omega arith) in
     omega arith
 
 both : (a b : Bool) → a && b ≡ true → (a ≡ true) × (b ≡ true)
@@ -90,6 +90,7 @@ module _ (m n seed : ℕ) (block fragments check : List ℕ) where
     where
       records : ℕ
       records = n * record-length written-version (body-length (length block) m)
+
       go : (a : Bool) → counts-fit m n ≡ a → (b : Bool) → leb (length block) longest-block ≡ b → (c : Bool) → leb seed largest-seed ≡ c
           → (d : Bool) → buffers-fit m n block fragments check ≡ d → _≡_ {A = ℕ} 0 (cond a (cond b (cond c (cond d 0 4) 3) 2) 1)
           → Passed m n seed block fragments check

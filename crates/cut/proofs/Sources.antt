@@ -29,15 +29,15 @@ own F block j = take F (drop (j * F) block)
 
 take-least : (n : ℕ) (l : List ℕ) → take (min n (length l)) l ≡ take n l
 take-least n l = elim (decLe n (length l)) [
-    | yes h ↦ ap (λ (k : ℕ). take k l) (let e : min n (length l) ≡ n = omega arith in e)
-    | no h ↦ take-all (min n (length l)) l (omega arith) ∙ sym (take-all n l (omega arith))
-  ]
+  | yes h ↦ ap (λ (k : ℕ). take k l) (let e : min n (length l) ≡ n = omega arith in e)
+  | no h ↦ take-all (min n (length l)) l (omega arith) ∙ sym (take-all n l (omega arith))
+]
 
 drop-least : (n : ℕ) (l : List ℕ) → drop (min n (length l)) l ≡ drop n l
 drop-least n l = elim (decLe n (length l)) [
-    | yes h ↦ ap (λ (k : ℕ). drop k l) (let e : min n (length l) ≡ n = omega arith in e)
-    | no h ↦ drop-of-length-le l {i = min n (length l)} (omega arith) ∙ sym (drop-of-length-le l {i = n} (omega arith))
-  ]
+  | yes h ↦ ap (λ (k : ℕ). drop k l) (let e : min n (length l) ≡ n = omega arith in e)
+  | no h ↦ drop-of-length-le l {i = min n (length l)} (omega arith) ∙ sym (drop-of-length-le l {i = n} (omega arith))
+]
 
 -- where body j begins fits a word
 pub place-fits : (j F : ℕ) → j < 2 ^ 8 → F < 2 ^ 32 → j * F < 2 ^ 64
@@ -108,12 +108,16 @@ module _ (m F : ℕ) (block : List ℕ) where
     where
       rest : List ℕ
       rest = drop (length (own F block i)) (replicate F 0)
+
       short : length (own F block i) ≤ F
       short = omega (arith, length-take F (drop (i * F) block))
+
       written : out ≡ own F block i ++ rest
       written = eo ∙ ap (put (own F block i)) ez ∙ put-fits (own F block i) (replicate F 0) (omega (arith, short, length-replicate {A = ℕ} F 0))
+
       long : length (own F block i ++ rest) ≡ F
       long = omega (arith, short, length-append (own F block i) rest, length-drop {A = ℕ} (length (own F block i)) (replicate F 0), length-replicate {A = ℕ} F 0)
+
       at : (p : ℕ) → p < F → getD (own F block i ++ rest) p 0 ≡ byte-of m F block i p
       at p l =
           padded-at (own F block i) rest (λ q. getD-drop (length (own F block i)) (replicate F 0) q 0 ∙ zeros-at F (length (own F block i) + q)) p
@@ -131,8 +135,8 @@ module _ (m F : ℕ) (block : List ℕ) where
         record {
           long = ap length e ∙ length-replicate F 0;
           at = λ p l.
-            ap (λ (o : List ℕ). getD o p 0) e ∙ zeros-at F p
-            ∙ ap (λ (ks : List ℕ). combined (itself bytes) ks (map (source F block p) (drop m (points m)))) (sym (drop-of-length-le cs {i = m} (omega arith)));
+              ap (λ (o : List ℕ). getD o p 0) e ∙ zeros-at F p
+              ∙ ap (λ (ks : List ℕ). combined (itself bytes) ks (map (source F block p) (drop m (points m)))) (sym (drop-of-length-le cs {i = m} (omega arith)));
         }
 
     pub summed-more : (j : ℕ) (out sum : List ℕ) (by : ℕ) (part : List ℕ) → 0 < j → j ≤ m → by ≡ getD cs (j - 1) 0 → part ≡ own F block (j - 1)
@@ -142,11 +146,11 @@ module _ (m F : ℕ) (block : List ℕ) where
         record {
           long = ap length es ∙ added-length by out part ∙ S .long;
           at = λ p l.
-            ap (λ (o : List ℕ). getD o p 0) es
-            ∙ added-at by out part p (omega (arith, S .long))
-            ∙ (λ i. plus (S .at p l i) (times (eb i) ((ap (λ (b : List ℕ). getD b p 0) ep ∙ own-byte F block (j - 1) p l) i)))
-            ∙ plus-comm _ _
-            ∙ (λ i. combined (itself bytes) (sym (dropped cs j 0 some (omega arith)) i) (map (source F block p) (next i)));
+              ap (λ (o : List ℕ). getD o p 0) es
+              ∙ added-at by out part p (omega (arith, S .long))
+              ∙ (λ i. plus (S .at p l i) (times (eb i) ((ap (λ (b : List ℕ). getD b p 0) ep ∙ own-byte F block (j - 1) p l) i)))
+              ∙ plus-comm _ _
+              ∙ (λ i. combined (itself bytes) (sym (dropped cs j 0 some (omega arith)) i) (map (source F block p) (next i)));
         }
       where
         next : (j - 1) ∷ drop j (points m) ≡ drop (j - 1) (points m)

@@ -20,8 +20,7 @@ same-length-2 c = search needs
 returns : tie.Need-returns
 returns c =
     let a = c .before .before .before .before .before .before .before .args in
-    let number = c .before .refusal .result in
-    (
+    let number = c .before .refusal .result in (
       c .before .refusal .ensures,
       (kept number (fragments (a .m) (a .n) (a .number) (a .block .now)) (a .fragments .now) (c .if1 .taken), kept number (check (a .m) (a .n) (a .seed) (a .number) (a .block .now)) (a .check .now) (c .if1 .taken)),
     )
@@ -60,13 +59,12 @@ same-length-4 c = search needs
 returns-2 : tie.Need-returns-2
 returns-2 c =
     let a = c .before .before .before .before .before .before .before .before .before .before .before .before .before .before .before .before .args in
-    let records = c .before .before .before .before .before .before .before .write-fragments in
-    (
+    let records = c .before .before .before .before .before .before .before .write-fragments in (
       sym (c .before .before .before .before .before .before .before .before .before .if1 .left) ∙ c .before .before .before .before .before .before .before .before .before .before .refusal .ensures,
       (
         records .ensures,
         c .before .before .write-check .ensures
-          ∙ check-is (a .m) (a .n) (a .seed) (a .number) (a .block .now) (records .last .1 .1 .1 .1 .0) (passed (c .before .before .before .before .before .before .before .before .before .before .before .before .before .before .before .before .args .m) (c .before .before .before .before .before .before .before .before .before .before .before .before .before .before .before .before .args .n) (c .before .before .before .before .before .before .before .before .before .before .before .before .before .before .before .before .args .seed) (c .before .before .before .before .before .before .before .before .before .before .before .before .before .before .before .before .args .block .now) (c .before .before .before .before .before .before .before .before .before .before .before .before .before .before .before .before .args .fragments .now) (c .before .before .before .before .before .before .before .before .before .before .before .before .before .before .before .before .args .check .now) (sym (c .before .before .before .before .before .before .before .before .before .if1 .left) ∙ c .before .before .before .before .before .before .before .before .before .before .refusal .ensures) .counts .most) (records .ensures),
+            ∙ check-is (a .m) (a .n) (a .seed) (a .number) (a .block .now) (records .last .1 .1 .1 .1 .0) (passed (c .before .before .before .before .before .before .before .before .before .before .before .before .before .before .before .before .args .m) (c .before .before .before .before .before .before .before .before .before .before .before .before .before .before .before .before .args .n) (c .before .before .before .before .before .before .before .before .before .before .before .before .before .before .before .before .args .seed) (c .before .before .before .before .before .before .before .before .before .before .before .before .before .before .before .before .args .block .now) (c .before .before .before .before .before .before .before .before .before .before .before .before .before .before .before .before .args .fragments .now) (c .before .before .before .before .before .before .before .before .before .before .before .before .before .before .before .before .args .check .now) (sym (c .before .before .before .before .before .before .before .before .before .if1 .left) ∙ c .before .before .before .before .before .before .before .before .before .before .refusal .ensures) .counts .most) (records .ensures),
       ),
     )
 

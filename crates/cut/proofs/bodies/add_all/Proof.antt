@@ -43,12 +43,11 @@ loop-less c = search needs
 loop-again : tie.Need-loop-again Inv-loop μ-loop
 loop-again c =
     let loop = c .before .before .before .before .before .before .before .loop in
-    let start = c .before .before .before .before .before .before .before .before .before .before .before in
-    (
+    let start = c .before .before .before .before .before .before .before .before .before .before .before in (
       omega arith,
       loop .inv .1,
       summed-more _ _ (start .args .block .now) (start .args .coefficients .now) (loop .inv .1) (loop .j) (loop .out) (c .before .before .add-scaled .last .0) _ (c .before .before .before .own .result .now)
-        (c .before .before .before .before .before .before .loop-test .taken) (loop .inv .0) mathlib.Core.Path.refl (c .before .before .before .own .ensures) (c .before .before .add-scaled .ensures) (loop .inv .2),
+          (c .before .before .before .before .before .before .loop-test .taken) (loop .inv .0) mathlib.Core.Path.refl (c .before .before .before .own .ensures) (c .before .before .add-scaled .ensures) (loop .inv .2),
     )
 
 same-length : tie.Need-same-length Inv-loop μ-loop

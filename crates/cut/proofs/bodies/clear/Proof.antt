@@ -30,8 +30,7 @@ loop-less c = omega arith
 
 loop-again : tie.Need-loop-again Inv-loop μ-loop
 loop-again c =
-    let loop = c .before .loop in
-    (
+    let loop = c .before .loop in (
       omega arith,
       length-set (loop .out) (loop .k) 0 ∙ loop .inv .1,
       ap (λ (o : mathlib.Core.List.List ℕ). set o (loop .k) 0) (loop .inv .2) ∙ fill-more (loop .k) 0 (c .before .before .args .out .now) (omega arith),

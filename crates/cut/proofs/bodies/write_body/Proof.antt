@@ -53,8 +53,7 @@ slice-aggregate-add-all c = back-count _ (c .before .before .before .coefficient
 
 add-all-requires : tie.Need-add-all-requires
 add-all-requires c κs =
-    let b8 = c .before .before .before .before .before .before .before .before in
-    (
+    let b8 = c .before .before .before .before .before .before .before .before in (
       zeros-of (b8 .before .before .before .before .before .before .args .out .now) (b8 .clear .last .0) _ (b8 .clear .ensures) (b8 .before .before .before .before .before .before .pre .0),
       back _ (c .before .before .before .coefficients .last .1 .1 .1 .1 .0) (drop (c .before .before .before .before .before .before .before .before .before .before .before .before .before .before .args .m) (replicate 255 0)) _ (c .before .before .before .coefficients .ensures) (listed-length _ _),
     )

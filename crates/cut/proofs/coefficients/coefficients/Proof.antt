@@ -56,15 +56,14 @@ loop-again : tie.Need-loop-again Inv-loop μ-loop
 loop-again c =
     let b5 = c .before .before .before .before .before in
     let loop = b5 .before .before .loop in
-    let start = b5 .before .before .before .before .before .before .before in
-    (
+    let start = b5 .before .before .before .before .before .before .before in (
       omega arith,
       loop .inv .1,
       listed-put _ _ (loop .j) (loop .out) _ _ (c .wide2 .ensures)
-        (quotient-is _ _ (omega arith) (start .fits .index .fits) (start .pre .0) (start .args .points .now) (start .args .spreads .now) (start .pre .1 .0) (start .pre .1 .1 .0)
+          (quotient-is _ _ (omega arith) (start .fits .index .fits) (start .pre .0) (start .args .points .now) (start .args .spreads .now) (start .pre .1 .0) (start .pre .1 .1 .0)
           (loop .j) _ (b5 .before .before .before .spread .result) (b5 .plus .result) (c .before .before .times .result) _ (b5 .before .loop-test .taken) (c .before .before .before .before .wide .ensures)
           (b5 .before .before .before .spread .ensures) (b5 .plus .ensures) (c .before .before .times .ensures) (c .before .quotient .ensures))
-        (b5 .before .loop-test .taken) (loop .inv .2),
+          (b5 .before .loop-test .taken) (loop .inv .2),
     )
 
 same-length : tie.Need-same-length Inv-loop μ-loop

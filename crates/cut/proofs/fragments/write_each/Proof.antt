@@ -46,10 +46,9 @@ part-write-record-end c = omega (arith, ap (λ (x : ℕ). c .before .loop .index
 write-record-requires : tie.Need-write-record-requires Inv-loop μ-loop
 write-record-requires c κs =
     let loop = c .before .before .loop in
-    let start = c .before .before .before .before .before .before .before .before in
-    (
+    let start = c .before .before .before .before .before .before .before .before in (
       part-room _ _ (loop .index) (loop .fragments) _ _ (loop .inv .1 .long ∙ start .pre .1 .1) (c .before .loop-test .taken)
-        (ap (λ (x : ℕ). c .before .before .loop .index * x) (c .before .before .before .record-length .ensures)) (ap (λ (x : ℕ). c .before .before .loop .index * c .before .before .before .record-length .result + x) (c .before .before .before .record-length .ensures)),
+          (ap (λ (x : ℕ). c .before .before .loop .index * x) (c .before .before .before .record-length .ensures)) (ap (λ (x : ℕ). c .before .before .loop .index * c .before .before .before .record-length .result + x) (c .before .before .before .record-length .ensures)),
       (start .pre .0, start .pre .1 .0),
     )
 
@@ -62,11 +61,10 @@ loop-less c = search needs
 loop-again : tie.Need-loop-again Inv-loop μ-loop
 loop-again c =
     let loop = c .before .before .before .before .before .loop in
-    let start = c .before .before .before .before .before .before .before .before .before .before .before in
-    (
+    let start = c .before .before .before .before .before .before .before .before .before .before .before in (
       omega arith,
       filled-more _ _ (one-record _ _ _ (start .args .block .now)) _ (start .args .fragments .now) (start .pre .1 .1) (loop .index) (loop .fragments) (c .before .before .write-record .last .0) _ _ (c .before .before .before .before .loop-test .taken)
-        (ap (λ (x : ℕ). c .before .before .before .before .before .loop .index * x) (c .before .before .before .before .before .before .record-length .ensures)) (ap (λ (x : ℕ). c .before .before .before .before .before .loop .index * c .before .before .before .before .before .before .record-length .result + x) (c .before .before .before .before .before .before .record-length .ensures)) (loop .inv .1) (c .before .before .write-record .ensures),
+          (ap (λ (x : ℕ). c .before .before .before .before .before .loop .index * x) (c .before .before .before .before .before .before .record-length .ensures)) (ap (λ (x : ℕ). c .before .before .before .before .before .loop .index * c .before .before .before .before .before .before .record-length .result + x) (c .before .before .before .before .before .before .record-length .ensures)) (loop .inv .1) (c .before .before .write-record .ensures),
     )
 
 same-length : tie.Need-same-length Inv-loop μ-loop

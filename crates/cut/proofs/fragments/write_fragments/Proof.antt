@@ -55,8 +55,7 @@ slice-aggregate-write-each-2 c = back-count _ (c .before .before .before .spread
 
 write-each-requires : tie.Need-write-each-requires
 write-each-requires c κs =
-    let start = c .before .before .before .before .before .before .before .before .before .before .before in
-    (
+    let start = c .before .before .before .before .before .before .before .before .before .before .before in (
       (ap (take (c .before .before .before .before .before .before .before .before .before .before .before .args .m)) (c .before .before .before .before .before .before .before .points .ensures) ∙ points-prefix (c .before .before .before .before .before .before .before .before .before .before .before .args .m) 255 (omega arith)),
       (back _ (c .before .before .before .before .spreads .last .1 .1 .0) (drop (c .before .before .before .before .before .before .before .before .before .before .before .args .m) (replicate 255 0)) _ (c .before .before .before .before .spreads .ensures) (listed-length _ _), start .pre .1 ∙ sym (ap (λ (F : ℕ). start .args .n * record-length written-version F) (c .before .before .before .before .before .before .before .before .body-length .ensures))),
     )

@@ -46,11 +46,10 @@ part-write-hashes-end c = search needs
 write-hashes-requires : tie.Need-write-hashes-requires
 write-hashes-requires c κs =
     let start = c .before .before .before .before .before .before .before .before .before .before .before in
-    let size = c .before .before .before .before .before .before .before .before .body-length in
-    (
+    let size = c .before .before .before .before .before .before .before .before .body-length in (
       (
         mid-len (c .before .before .hash-place .result) (c .before .prints-place .result) (c .before .before .before .before .before .write-check-head .last .0) (omega (arith, c .before .before .before .before .before .write-check-head .kept .0, start .pre .1 .1, c .before .prints-place .ensures))
-        ∙ omega (arith, c .before .prints-place .ensures, c .before .before .hash-place .ensures),
+            ∙ omega (arith, c .before .prints-place .ensures, c .before .before .hash-place .ensures),
         omega (arith, size .ensures, body-length-fits (start .args .length) (start .args .m) (start .pre .0 .2) (start .pre .0 .0)),
       ),
       omega (arith, start .pre .1 .0, ap (λ (F : ℕ). start .args .n * record-length written-version F) (size .ensures)),
@@ -68,10 +67,9 @@ part-write-prints-end c = search needs
 write-prints-requires : tie.Need-write-prints-requires
 write-prints-requires c κs =
     let start = c .before .before .before .before .before .before .before .before .before .before .before .before .before .before .before in
-    let size = c .before .before .before .before .before .before .before .before .before .before .before .before .body-length in
-    (
+    let size = c .before .before .before .before .before .before .before .before .before .before .before .before .body-length in (
       last-room (c .before .before .before .before .before .before .before .before .before .write-check-head .last .0) (c .before .before .before .write-hashes .last .0) (c .before .before .before .before .before .before .hash-place .result) (c .before .before .before .before .before .prints-place .result) (3 * start .args .m) (c .before .before .before .write-hashes .kept .0)
-        (omega (arith, c .before .before .before .before .before .before .before .before .before .write-check-head .kept .0, start .pre .1 .1, c .before .before .before .before .before .prints-place .ensures)),
+          (omega (arith, c .before .before .before .before .before .before .before .before .before .write-check-head .kept .0, start .pre .1 .1, c .before .before .before .before .before .prints-place .ensures)),
       omega (arith, start .pre .1 .0, ap (λ (F : ℕ). start .args .n * record-length written-version F) (size .ensures), mul-le-mul-right (record-length written-version (size .result)) (start .pre .0 .1)),
     )
 

@@ -64,13 +64,12 @@ loop-again c =
     let b6 = c .before .before .before .before .before .before in
     let b8 = b6 .before .before in
     let loop = b8 .before .loop in
-    let start = b8 .before .before .before .before in
-    (
+    let start = b8 .before .before .before .before in (
       omega arith,
       filled-put 32 _ (λ i. length-SHA-256 _) _ (start .args .out .now) (omega arith) (loop .i) (loop .out) (b6 .sha256 .result .digest) (c .before .before .put .last .0) (32 * loop .i) (32 * loop .i + 32)
-        (b8 .loop-test .taken) (omega arith) refl (loop .inv .1)
-        (hash-is (start .args .size) (start .args .fragments .now) (loop .i) (b6 .before .body-among .result .now) (b6 .before .body-among .ensures) (start .pre .0 .1) (b6 .sha256 .result) (b6 .sha256 .ensures))
-        (c .before .before .put .ensures),
+          (b8 .loop-test .taken) (omega arith) refl (loop .inv .1)
+          (hash-is (start .args .size) (start .args .fragments .now) (loop .i) (b6 .before .body-among .result .now) (b6 .before .body-among .ensures) (start .pre .0 .1) (b6 .sha256 .result) (b6 .sha256 .ensures))
+          (c .before .before .put .ensures),
     )
 
 same-length : tie.Need-same-length Inv-loop μ-loop

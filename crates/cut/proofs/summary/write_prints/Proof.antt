@@ -71,16 +71,15 @@ loop-again c =
     let b8 = b5 .before .before .before in
     let loop = b8 .before .loop in
     let b11 = b8 .before .before .before in
-    let start = b11 .before .before .before in
-    (
+    let start = b11 .before .before .before in (
       omega arith,
       filled-put 3 _ (λ i. refl) _ (start .args .out .now) (omega arith) (loop .j) (loop .out) _ (c .before .before .put .last .0) (3 * loop .j) (3 * loop .j + 3)
-        (b8 .loop-test .taken) (omega arith) refl (loop .inv .1)
-        (ap column-bytes
+          (b8 .loop-test .taken) (omega arith) refl (loop .inv .1)
+          (ap column-bytes
           (print-is (start .args .size) (start .args .fragments .now) (loop .j) (b5 .before .body-among .result .now) (b5 .before .body-among .ensures) (start .args .y) _ (b5 .evaluated .result) (b8 .before .before .table .result)
-            (omega (arith, start .good)) (all-small (start .args .fragments .now) (λ k. b11 .before .shared-slice-known .given k .fits)) (b11 .times .ensures)
-            (b8 .before .before .table .ensures) (b5 .evaluated .ensures)))
-        (c .before .before .put .ensures),
+          (omega (arith, start .good)) (all-small (start .args .fragments .now) (λ k. b11 .before .shared-slice-known .given k .fits)) (b11 .times .ensures)
+          (b8 .before .before .table .ensures) (b5 .evaluated .ensures)))
+          (c .before .before .put .ensures),
     )
 
 same-length : tie.Need-same-length Inv-loop μ-loop
