@@ -1,9 +1,9 @@
 -- Cutting a block: the records and the check record, byte by byte, and the refusals.
 use mathlib.Core.Bool.{Bool, true, false, _&&_, cond}
 use mathlib.Core.List.{List, [], _∷_}
-use Prim.Native.Nat.{ℕ, _*_}
+use Prim.Native.Nat.{ℕ, _+_, _*_}
 use lib.Dec.{eqb, leb}
-use lib.ListN.{length}
+use lib.ListN.{length, take, drop}
 use Rattle.limits.specs.Limits.{longest-block, largest-seed}
 use Rattle.algebra.specs.Several.{listed, end-to-end}
 use Rattle.column.specs.declared.Column.{Column}
@@ -11,7 +11,7 @@ use Rattle.column.specs.Column.{from-seed}
 use Rattle.code.specs.Cutting.{body-length, body}
 use Rattle.fingerprint.specs.Fingerprint.{fingerprint-at}
 use Rattle.sha256.specs.Fips180.{SHA-256}
-use Rattle.record.specs.Layout.{column-bytes, written-version, check-length, record-length}
+use Rattle.record.specs.Layout.{column-bytes, written-version, check-length, body-place, record-length}
 use Rattle.record.specs.Records.{check-record, fragment-record}
 use Rattle.record.specs.Heads.{counts-fit}
 
@@ -23,12 +23,19 @@ body-of m block i = body m (body-length (length block) m) block i
 unfoldable pub fragments : ℕ → ℕ → ℕ → List ℕ → List ℕ
 fragments m n number block = end-to-end (listed n (λ i. fragment-record written-version number i (body-of m block i)))
 
--- "n SHA-256 hashes, each of one body alone; then the m fingerprints of bodies 0 to m - 1"
+-- the check record of any bodies: "n SHA-256 hashes, each of one body alone; then the m fingerprints of bodies 0 to m - 1"
+unfoldable pub check-of : ℕ → ℕ → ℕ → ℕ → ℕ → (ℕ → List ℕ) → List ℕ
+check-of m n seed number L body =
+    check-record written-version number L m n (from-seed seed)
+    (end-to-end (listed n (λ i. SHA-256 (body i))))
+    (end-to-end (listed m (λ j. column-bytes (fingerprint-at (from-seed seed) (body j)))))
+
 unfoldable pub check : ℕ → ℕ → ℕ → ℕ → List ℕ → List ℕ
-check m n seed number block =
-    check-record written-version number (length block) m n (from-seed seed)
-    (end-to-end (listed n (λ i. SHA-256 (body-of m block i))))
-    (end-to-end (listed m (λ j. column-bytes (fingerprint-at (from-seed seed) (body-of m block j)))))
+check m n seed number block = check-of m n seed number (length block) (body-of m block)
+
+-- the body of record i, where it stands among records of F bytes each with their heads
+unfoldable pub body-among : ℕ → List ℕ → ℕ → List ℕ
+body-among F records i = take F (drop (i * record-length written-version F + body-place written-version) records)
 
 -- 4 is given unless the two lent buffers have these lengths
 unfoldable pub buffers-fit : ℕ → ℕ → List ℕ → List ℕ → List ℕ → Bool
