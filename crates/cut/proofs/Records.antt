@@ -44,12 +44,12 @@ module _ (v number i : ℕ) where
   unfolding fragment-record
   fragment-record-length b =
       length-append (fragment-head v number i (length b)) b
-      ∙ ap (λ (k : ℕ). k + length b) (fragment-head-length v number i (length b) [])
+      ∙ ap (λ (k : ℕ). k + length b) (fragment-head-length v number i (length b))
 
   -- the body of a record stands behind its head
   pub body-behind : (b : List ℕ) → drop (body-place v) (fragment-record v number i b) ≡ b
   unfolding fragment-record
-  body-behind b = drop-at (fragment-head v number i (length b)) b (body-place v) (fragment-head-length v number i (length b) [])
+  body-behind b = drop-at (fragment-head v number i (length b)) b (body-place v) (fragment-head-length v number i (length b))
 
   -- a record written in place
   pub record-written : (F : ℕ) (l o : List ℕ) → length l ≡ record-length v F → (place : ℕ) → place ≡ body-place v → (part b : List ℕ) → length b ≡ F
@@ -64,7 +64,7 @@ module _ (v number i : ℕ) where
       head = fragment-head v number i F
 
       long : length head ≡ body-place v
-      long = fragment-head-length v number i F []
+      long = fragment-head-length v number i F
 
 -- the records of bodies of F bytes
 pub one-record : (m F number : ℕ) (block : List ℕ) (i : ℕ)
@@ -154,7 +154,7 @@ module _ (m n seed number L : ℕ) (bodies : ℕ → List ℕ) where
 
   head-long : length head-of ≡ hashes-place written-version
   unfolding head-of
-  head-long = check-head-length written-version number L m n (from-seed seed) []
+  head-long = check-head-length written-version number L m n (from-seed seed)
 
   front-long : length (head-of ++ hashes-of n bodies) ≡ prints-place written-version n
   front-long = omega (arith, length-append head-of (hashes-of n bodies), head-long, hashes-length n bodies)

@@ -85,7 +85,7 @@ returns c =
     let hashes = c .before .before .before .before .before .before .write-hashes in
     let prints = c .before .before .write-prints in
     let y = c .before .before .before .before .before .before .before .before .before .before .before .before .before .before .from-seed in
-    let long = check-head-length written-version (a .number) (a .length) (a .m) (a .n) (y .result) [] in
+    let long = check-head-length written-version (a .number) (a .length) (a .m) (a .n) (y .result) in
     three-written (check-head written-version (a .number) (a .length) (a .m) (a .n) (y .result)) (a .check .now) (c .before .before .before .before .before .before .before .before .before .before .before .before .write-check-head .last .0) (hashes .last .0) (c .before .before .before .before .before .before .before .before .before .hash-place .result) (c .before .before .before .before .before .before .before .before .prints-place .result)
     (omega (arith, long, c .before .before .before .before .before .before .before .before .before .hash-place .ensures))
     (ap length (hashes .ensures) ∙ hashes-length (a .n) bodies ∙ omega (arith, c .before .before .before .before .before .before .before .before .before .hash-place .ensures, c .before .before .before .before .before .before .before .before .prints-place .ensures))
