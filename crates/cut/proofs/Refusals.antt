@@ -12,32 +12,8 @@ use Rattle.limits.specs.Limits.{most-fragments, longest-block, longest-body, la
 use Rattle.code.specs.Cutting.{body-length}
 use Rattle.record.specs.Layout.{written-version, check-length, record-length}
 use Rattle.record.specs.Heads.{counts-fit}
+use Rattle.record.proofs.Counts.{both, Counts, counted}
 use Rattle.cut.specs.Cut.{buffers-fit, cut-number, held}
-
--- no body of a block that may be cut is too long to be hashed
-pub body-length-fits : (L m : ℕ) → L ≤ longest-block → 1 ≤ m → body-length L m ≤ longest-body
-unfolding body-length
-body-length-fits L m hL hm =
-    let columns : (L + (3 * m - 1)) / (3 * m) < 21847 =
-    div-lt-iff-lt-mul {k = 3 * m} {x = L + (3 * m - 1)} {y = 21847} (omega arith) .1 (omega arith) in
-    omega arith
-
-both : (a b : Bool) → a && b ≡ true → (a ≡ true) × (b ≡ true)
-both true b e = (refl, e)
-both false b e = absurd (let z : _≡_ {A = ℕ} 0 1 = cc in omega arith)
-
--- the counts of a cut
-pub record Counts (m n : ℕ) : Type 0 where
-  pub some : 1 ≤ m
-  pub most : m ≤ n
-  pub few : n ≤ most-fragments
-
-pub counted : (m n : ℕ) → counts-fit m n ≡ true → Counts m n
-unfolding counts-fit
-counted m n e =
-    let all = both _ _ e in
-    let rest = both _ _ (all .1) in
-    record { some = leb-true 1 m (all .0); most = leb-true m n (rest .0); few = leb-true n most-fragments (rest .1) }
 
 -- what has been tested where nothing is refused
 pub record Passed (m n seed : ℕ) (block fragments check : List ℕ) : Type 0 where

@@ -8,7 +8,7 @@ use Rattle.algebra.proofs.Several.{listed-length}
 use Rattle.code.proofs.Bodies.{points-length, points-prefix}
 use Rattle.record.specs.Layout.{written-version, record-length}
 use Rattle.cut.proofs.Records.{fragments-of}
-use Rattle.cut.proofs.Refusals.{body-length-fits}
+use Rattle.code.proofs.Longest.{body-length-fits}
 use Rattle.cut.proofs.Sources.{back, back-room, back-count}
 use borrow.Author.Needs.{needs}
 use Rattle.cut.proofs.fragments.write_fragments.Statement.{statement}

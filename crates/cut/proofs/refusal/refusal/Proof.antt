@@ -5,7 +5,9 @@ use native.Mathlib.Omega.{arith}
 use borrow.Author.Tests.{not-true, not-false}
 use Rattle.record.specs.Layout.{written-version}
 use Rattle.record.proofs.Head.{head-below}
-use Rattle.cut.proofs.Refusals.{body-length-fits, counted, other-counts, too-long, no-seed, other-records, other-check, nothing-refused}
+use Rattle.code.proofs.Longest.{body-length-fits}
+use Rattle.record.proofs.Counts.{counted}
+use Rattle.cut.proofs.Refusals.{other-counts, too-long, no-seed, other-records, other-check, nothing-refused}
 use Rattle.cut.proofs.Sources.{place-fits}
 use borrow.Author.Needs.{needs}
 use Rattle.cut.proofs.refusal.refusal.Statement.{statement}

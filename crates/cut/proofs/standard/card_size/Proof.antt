@@ -2,7 +2,7 @@
 use native.Mathlib.Omega.{arith}
 use Rattle.cut.specs.Standard.{m}
 use Rattle.cut.proofs.Planning.{no-plan, plan}
-use Rattle.cut.proofs.Refusals.{body-length-fits}
+use Rattle.code.proofs.Longest.{body-length-fits}
 use borrow.Author.Needs.{needs}
 use Rattle.cut.proofs.standard.card_size.Statement.{statement}
 use Rattle.cut.proofs.standard.card_size.Tie as tie

@@ -11,7 +11,7 @@ use Rattle.record.specs.Records.{check-head}
 use Rattle.record.proofs.ReadBack.{check-head-length}
 use Rattle.cut.specs.Cut.{check-of, body-among}
 use Rattle.cut.proofs.Records.{hashes-length, last-room, three-written, check-written}
-use Rattle.cut.proofs.Refusals.{body-length-fits}
+use Rattle.code.proofs.Longest.{body-length-fits}
 use borrow.Author.Needs.{needs}
 use Rattle.cut.proofs.summary.write_check.Statement.{statement}
 use Rattle.cut.proofs.summary.write_check.Tie as tie
