@@ -1,28 +1,30 @@
 -- Each fragment of a cut is accepted under its check record, at every seed, for every m, n, L and block number in bounds.
 use mathlib.Core.Path.{_≡_, refl, sym, ap, ap₂, subst, _∙_}
-use mathlib.Core.Bool.{Bool, true, false, _&&_, false≢true}
-use mathlib.Core.List.{List, [], _∷_, _++_, map}
+use mathlib.Core.Bool.{true, _&&_}
+use mathlib.Core.List.{List, _++_, map}
 use Prim.Native.Nat.{ℕ, _+_, _*_, _^_, _<_, _≤_}
 use native.Mathlib.Nat.{lt-of-lt-of-le, lt-of-le-of-lt, le-trans}
-use native.Mathlib.Omega.{arith}
 use lib.Dec.{eqb, ltb, lit<, lit≤}
-use lib.ListN.{length, drop}
+use lib.ListN.{length, take, drop, length-append}
 use lib.Seq.{drop-at}
-use borrow.Author.Tests.{eq-eqb, lt-ltb, leb-true}
-use Rattle.limits.specs.Limits.{most-fragments, longest-block, largest-seed}
-use Rattle.algebra.specs.Several.{All, listed, end-to-end}
+use borrow.Author.Tests.{eq-eqb, lt-ltb}
+use Rattle.limits.specs.Limits.{longest-block, largest-seed}
+use Rattle.algebra.specs.Several.{All}
+use Rattle.algebra.proofs.Several.{map-listed}
 use Rattle.column.specs.declared.Column.{Column}
 use Rattle.column.specs.Column.{columns, from-seed}
 use Rattle.code.specs.Cutting.{points, body-length, body}
 use Rattle.code.proofs.Plain.{Small}
 use Rattle.code.proofs.Bodies.{body-length-is}
+use Rattle.code.proofs.Longest.{body-length-fits}
 use Rattle.fingerprint.specs.Fingerprint.{columns-of, fingerprint-at, called-for}
 use Rattle.sha256.specs.Fips180.{SHA-256}
 use Rattle.record.specs.declared.CheckHead.{CheckHead}
 use Rattle.record.specs.declared.FragmentHead.{FragmentHead}
-use Rattle.record.specs.Layout.{column-bytes, written-version, prints-place, body-place}
+use Rattle.record.specs.Layout.{written-version, hashes-place, prints-place, body-place}
 use Rattle.record.specs.Records.{check-head, check-record, fragment-head, fragment-record}
 use Rattle.record.specs.Heads.{check-head-of, fragment-head-of, check-marked, check-shaped, counts-fit, fragment-shaped}
+use Rattle.record.proofs.Counts.{Counts, counted}
 use Rattle.record.proofs.ReadBack.{check-back, fragment-back, fragment-head-length}
 use Rattle.record.proofs.Accepted.{check-head-known, check-head-shaped, fragment-head-shaped}
 use Rattle.inspect.specs.Answer.{Answer, accepted}
@@ -31,27 +33,10 @@ use Rattle.inspect.specs.Check as inspect
 use Rattle.inspect.proofs.Exact.{Holds, all-hold}
 use Rattle.inspect.proofs.Called.{same-self}
 use Rattle.cut.specs.Cut as cut
+use Rattle.cut.proofs.Records.{hashes-of, prints-of, hashes-length, prints-length, hash-back, prints-back, columns-back}
+use Rattle.faithful.specs.Faithful.{Within}
 use Rattle.trust.proofs.Own.{own-match}
 use Rattle.trust.proofs.Lifted.{seed-column}
-
--- a cut within document 01's bounds
-pub record Within (m n seed number : ℕ) (block : List ℕ) : Type 0 where
-  pub counts : counts-fit m n ≡ true
-  pub length-fits : length block ≤ longest-block
-  pub seed-fits : seed ≤ largest-seed
-  pub number-fits : number < 2 ^ 64
-  pub bytes : All Small block
-
-both : (a b : Bool) → a && b ≡ true → (a ≡ true) × (b ≡ true)
-both true b e = (refl, e)
-both false b e = absurd (false≢true e)
-
--- m and n are in document 01's bounds
-pub counts-mean : (m n : ℕ) → counts-fit m n ≡ true → (1 ≤ m) × (m ≤ n) × (n ≤ most-fragments)
-unfolding counts-fit
-counts-mean m n e =
-    let p = both _ _ e in let q = both _ _ (p .1) in
-    (leb-true 1 m (p .0), leb-true m n (q .0), leb-true n most-fragments (q .1))
 
 column-self : (u : Column) → columns .same u u ≡ true
 column-self u = ap₂ _&&_ (eq-eqb (u .a) (u .a) refl) (ap₂ _&&_ (eq-eqb (u .b) (u .b) refl) (eq-eqb (u .c) (u .c) refl))
@@ -64,27 +49,25 @@ module _ (m n seed number : ℕ) (block : List ℕ) (within : Within m n seed nu
   C = cut.check m n seed number block
 
   abbrev rest : List ℕ
-  rest =
-      end-to-end (listed n (λ i. SHA-256 (cut.body-of m block i)))
-      ++ end-to-end (listed m (λ j. column-bytes (fingerprint-at (from-seed seed) (cut.body-of m block j))))
+  rest = hashes-of n (cut.body-of m block) ++ prints-of m (from-seed seed) (cut.body-of m block)
 
   abbrev head : CheckHead
   head = record { version = written-version; number = number; length = length block; m = m; n = n; seed = from-seed seed }
 
-  counted : (1 ≤ m) × (m ≤ n) × (n ≤ most-fragments)
-  counted = counts-mean m n (within .counts)
+  pub counts : Counts m n
+  counts = counted m n (within .counts)
 
   pub n≤ : n ≤ 256
-  n≤ = le-trans (counted .2) (lit≤ tt)
+  n≤ = le-trans (counts .few) (lit≤ tt)
 
   pub m≤ : m ≤ 256
-  m≤ = le-trans (counted .1) n≤
+  m≤ = le-trans (counts .most) n≤
 
   long : length block < 2 ^ 32
   long = lt-of-le-of-lt (within .length-fits) (lit< tt)
 
   pub head-is : check-head-of C ≡ head
-  unfolding cut.check check-record
+  unfolding cut.check cut.check-of check-record
   head-is = check-back written-version number (length block) m n (from-seed seed) rest (lit< tt) (within .number-fits) long
 
   pub size-is : size-of C ≡ F
@@ -92,20 +75,39 @@ module _ (m n seed number : ℕ) (block : List ℕ) (within : Within m n seed nu
   size-is = ap (λ (h : CheckHead). body-length (h .length) (h .m)) head-is
 
   pub marked-is : check-marked C ≡ true
-  unfolding cut.check check-record
+  unfolding cut.check cut.check-of check-record
   marked-is = check-head-known written-version number (length block) m n (from-seed seed) rest (lit< tt) (within .number-fits) long
 
-  pub shaped-is : length rest ≡ 32 * n + 3 * m → check-shaped C ≡ true
-  unfolding cut.check check-record
-  shaped-is whole =
+  whole : length rest ≡ 32 * n + 3 * m
+  whole =
+      length-append (hashes-of n (cut.body-of m block)) _
+      ∙ ap₂ _+_ (hashes-length n (cut.body-of m block)) (prints-length m (from-seed seed) (cut.body-of m block))
+
+  pub shaped-is : check-shaped C ≡ true
+  unfolding cut.check cut.check-of check-record
+  shaped-is =
       check-head-shaped written-version number (length block) m n (from-seed seed) rest (lit< tt) (within .number-fits) long (within .counts)
       (within .length-fits) whole
 
-  module _ (i : ℕ) (below : i < n)
-      (whole : length rest ≡ 32 * n + 3 * m)
-      (fits : F < 2 ^ 32)
-      (hash : hash-of C i ≡ SHA-256 (cut.body-of m block i))
-      (prints : columns-of (drop (prints-place written-version n) C) ≡ map (λ j. fingerprint-at (from-seed seed) (cut.body-of m block j)) (points m)) where
+  fits : F < 2 ^ 32
+  fits = lt-of-le-of-lt (body-length-fits (length block) m (within .length-fits) (counts .some)) (lit< tt)
+
+  -- the check record's fingerprints are those of the first m bodies
+  prints : columns-of (drop (prints-place written-version n) C) ≡ map (λ j. fingerprint-at (from-seed seed) (cut.body-of m block j)) (points m)
+  unfolding cut.check points
+  prints =
+      ap columns-of (prints-back m n seed number (length block) (cut.body-of m block))
+      ∙ columns-back m (λ j. fingerprint-at (from-seed seed) (cut.body-of m block j))
+      ∙ sym (map-listed (λ j. fingerprint-at (from-seed seed) (cut.body-of m block j)) m (λ j. j))
+
+  module _ (i : ℕ) (below : i < n) where
+    -- its hash i is that of body i
+    hash : hash-of C i ≡ SHA-256 (cut.body-of m block i)
+    unfolding hash-of cut.check
+    hash =
+        ap (λ (h : CheckHead). take 32 (drop (hashes-place (h .version) + 32 * i) C)) head-is
+        ∙ hash-back m n seed number (length block) (cut.body-of m block) i below
+
     abbrev B : List ℕ
     B = cut.body-of m block i
 
@@ -153,7 +155,7 @@ module _ (m n seed number : ℕ) (block : List ℕ) (within : Within m n seed nu
     every = (
       marked-is,
       (
-        shaped-is whole,
+        shaped-is,
         (
           ap (λ (h : CheckHead). eqb (h .number) number) head-is ∙ eq-eqb number number refl,
           (

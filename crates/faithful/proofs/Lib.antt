@@ -1,3 +1,4 @@
 pub mod Accepted
 pub mod Padded
 pub mod Joined
+pub mod Demand
