@@ -19,8 +19,8 @@ fn main() {
 
 // Every fragment of document 01's example.
 fn sound() {
-    changed::fragment(b"fragment 0", 13, &[0, 0, 0, 0, 3, 1, 2, 3]);
-    changed::fragment(b"fragment 1", 13, &[1, 0, 0, 0, 3, 4, 5, 6]);
+    changed::fragment(b"fragment 0", 13, b"\x00\x00\x00\x00\x03\x01\x02\x03");
+    changed::fragment(b"fragment 1", 13, b"\x01\x00\x00\x00\x03\x04\x05\x06");
     changed::fragment(b"fragment 2", 0, b"");
-    changed::fragment(b"fragment 3", 13, &[3, 0, 0, 0, 3, 0x0e, 0x0b, 0x0c]);
+    changed::fragment(b"fragment 3", 13, b"\x03\x00\x00\x00\x03\x0e\x0b\x0c");
 }
