@@ -17,7 +17,7 @@ ghost use Rattle.cut.specs.Cut as cut;
 
 // Writes the records of all n bodies.
 pub(crate) fn write_fragments(m: u8, n: u8, number: u64, block: &[u8], fragments: &mut [u8])
-    requires { ⌜ (1 ≤ m) × (length (now block) ≤ longest-block) ⌝ }
+    requires { ⌜ (1 ≤ m) × (m ≤ n) × (length (now block) ≤ longest-block) ⌝ }
     requires { ⌜ length (now fragments) ≡ n * layout.record-length layout.written-version (cutting.body-length (length (now block)) m) ⌝ }
     ensures { λ r. ⌜ now (fragments .exit) ≡ cut.fragments m n number (now (block .entry)) ⌝ }
 {
@@ -49,6 +49,7 @@ fn write_each(
     spreads: &[u8],
     fragments: &mut [u8],
 )
+    requires { ⌜ m ≤ n ⌝ }
     requires { ⌜ now points ≡ cutting.points m ⌝ }
     requires { ⌜ now spreads ≡ listed m (weights.spread bytes (now points)) ⌝ }
     requires { ⌜ length (now fragments) ≡ n * layout.record-length layout.written-version size ⌝ }

@@ -22,7 +22,7 @@ returns c =
     let a = c .before .before .before .before .before .before .before .args in
     let number = c .before .refusal .result in (
       c .before .refusal .ensures,
-      (kept number (fragments (a .m) (a .n) (a .number) (a .block .now)) (a .fragments .now) (c .if1 .taken), kept number (check (a .m) (a .n) (a .seed) (a .number) (a .block .now)) (a .check .now) (c .if1 .taken)),
+      (kept number (fragments (a .m) (a .n) (a .number) (a .block .now)) (a .fragments .now) (omega arith), kept number (check (a .m) (a .n) (a .seed) (a .number) (a .block .now)) (a .check .now) (omega arith)),
     )
 
 cast-write-fragments : tie.Need-cast-write-fragments
@@ -34,7 +34,7 @@ cast-write-fragments-2 c = omega (arith, passed (c .before .before .before .befo
 write-fragments-requires : tie.Need-write-fragments-requires
 write-fragments-requires c κs =
     let p = passed (c .before .before .before .before .before .before .before .before .args .m) (c .before .before .before .before .before .before .before .before .args .n) (c .before .before .before .before .before .before .before .before .args .seed) (c .before .before .before .before .before .before .before .before .args .block .now) (c .before .before .before .before .before .before .before .before .args .fragments .now) (c .before .before .before .before .before .before .before .before .args .check .now) (sym (c .before .if1 .left) ∙ c .before .before .refusal .ensures) in
-    ((p .counts .some, p .short), p .records-fit)
+    ((p .counts .some, p .counts .most, p .short), p .records-fit)
 
 cast-write-check : tie.Need-cast-write-check
 cast-write-check c = omega (arith, passed (c .before .before .before .before .before .before .before .before .before .before .before .args .m) (c .before .before .before .before .before .before .before .before .before .before .before .args .n) (c .before .before .before .before .before .before .before .before .before .before .before .args .seed) (c .before .before .before .before .before .before .before .before .before .before .before .args .block .now) (c .before .before .before .before .before .before .before .before .before .before .before .args .fragments .now) (c .before .before .before .before .before .before .before .before .before .before .before .args .check .now) (sym (c .before .before .before .before .if1 .left) ∙ c .before .before .before .before .before .refusal .ensures))

@@ -29,10 +29,10 @@ cast-start : tie.Need-cast-start Inv-loop μ-loop
 cast-start c = search needs
 
 mul-start : tie.Need-mul-start Inv-loop μ-loop
-mul-start c = omega (arith, ap (λ (x : ℕ). c .before .loop .index * x) (c .before .before .record-length .ensures), c .before .before .record-length .ensures, within (record-length written-version (c .before .before .before .before .before .before .before .args .size)) _ _ (c .loop-test .taken), c .before .before .before .before .before .before .before .pre .1 .1, c .before .loop .inv .1 .long, c .before .before .before .before .before .before .before .good)
+mul-start c = omega (arith, ap (λ (x : ℕ). c .before .loop .index * x) (c .before .before .record-length .ensures), c .before .before .record-length .ensures, within (record-length written-version (c .before .before .before .before .before .before .before .args .size)) (c .before .before .before .before .before .before .before .args .n) (c .before .loop .index) (omega arith), c .before .before .before .before .before .before .before .pre .1 .1 .1, c .before .loop .inv .1 .long, c .before .before .before .before .before .before .before .good)
 
 add-end : tie.Need-add-end Inv-loop μ-loop
-add-end c = omega (arith, ap (λ (x : ℕ). c .before .loop .index * x) (c .before .before .record-length .ensures), c .before .before .record-length .ensures, within (record-length written-version (c .before .before .before .before .before .before .before .args .size)) _ _ (c .loop-test .taken), c .before .before .before .before .before .before .before .pre .1 .1, c .before .loop .inv .1 .long, c .before .before .before .before .before .before .before .good)
+add-end c = omega (arith, ap (λ (x : ℕ). c .before .loop .index * x) (c .before .before .record-length .ensures), c .before .before .record-length .ensures, within (record-length written-version (c .before .before .before .before .before .before .before .args .size)) (c .before .before .before .before .before .before .before .args .n) (c .before .loop .index) (omega arith), c .before .before .before .before .before .before .before .pre .1 .1 .1, c .before .loop .inv .1 .long, c .before .before .before .before .before .before .before .good)
 
 sub-write-record : tie.Need-sub-write-record Inv-loop μ-loop
 sub-write-record c = search needs
@@ -41,15 +41,15 @@ part-write-record-start : tie.Need-part-write-record-start Inv-loop μ-loop
 part-write-record-start c = search needs
 
 part-write-record-end : tie.Need-part-write-record-end Inv-loop μ-loop
-part-write-record-end c = omega (arith, ap (λ (x : ℕ). c .before .loop .index * x) (c .before .before .record-length .ensures), c .before .before .record-length .ensures, within (record-length written-version (c .before .before .before .before .before .before .before .args .size)) _ _ (c .loop-test .taken), c .before .before .before .before .before .before .before .pre .1 .1, c .before .loop .inv .1 .long, c .before .before .before .before .before .before .before .good)
+part-write-record-end c = omega (arith, ap (λ (x : ℕ). c .before .loop .index * x) (c .before .before .record-length .ensures), c .before .before .record-length .ensures, within (record-length written-version (c .before .before .before .before .before .before .before .args .size)) (c .before .before .before .before .before .before .before .args .n) (c .before .loop .index) (omega arith), c .before .before .before .before .before .before .before .pre .1 .1 .1, c .before .loop .inv .1 .long, c .before .before .before .before .before .before .before .good)
 
 write-record-requires : tie.Need-write-record-requires Inv-loop μ-loop
 write-record-requires c κs =
     let loop = c .before .before .loop in
     let start = c .before .before .before .before .before .before .before .before in (
-      part-room _ _ (loop .index) (loop .fragments) _ _ (loop .inv .1 .long ∙ start .pre .1 .1) (c .before .loop-test .taken)
+      part-room _ (start .args .n) (loop .index) (loop .fragments) _ _ (loop .inv .1 .long ∙ start .pre .1 .1 .1) (omega arith)
           (ap (λ (x : ℕ). c .before .before .loop .index * x) (c .before .before .before .record-length .ensures)) (ap (λ (x : ℕ). c .before .before .loop .index * c .before .before .before .record-length .result + x) (c .before .before .before .record-length .ensures)),
-      (start .pre .0, start .pre .1 .0),
+      (start .pre .1 .0, start .pre .1 .1 .0),
     )
 
 add-index : tie.Need-add-index Inv-loop μ-loop
@@ -63,7 +63,7 @@ loop-again c =
     let loop = c .before .before .before .before .before .loop in
     let start = c .before .before .before .before .before .before .before .before .before .before .before in (
       omega arith,
-      filled-more _ _ (one-record _ _ _ (start .args .block .now)) _ (start .args .fragments .now) (start .pre .1 .1) (loop .index) (loop .fragments) (c .before .before .write-record .last .0) _ _ (c .before .before .before .before .loop-test .taken)
+      filled-more _ _ (one-record _ _ _ (start .args .block .now)) _ (start .args .fragments .now) (start .pre .1 .1 .1) (loop .index) (loop .fragments) (c .before .before .write-record .last .0) _ _ (omega arith)
           (ap (λ (x : ℕ). c .before .before .before .before .before .loop .index * x) (c .before .before .before .before .before .before .record-length .ensures)) (ap (λ (x : ℕ). c .before .before .before .before .before .loop .index * c .before .before .before .before .before .before .record-length .result + x) (c .before .before .before .before .before .before .record-length .ensures)) (loop .inv .1) (c .before .before .write-record .ensures),
     )
 
@@ -73,7 +73,7 @@ same-length c = c .before .loop .inv .1 .long
 returns : tie.Need-returns Inv-loop μ-loop
 returns c =
     let start = c .before .before .before .before .before .before .before in
-    filled-all _ _ (one-record _ _ _ (start .args .block .now)) _ (start .args .fragments .now) (start .pre .1 .1) (c .before .loop .index) (c .before .loop .fragments) (omega arith) (c .before .loop .inv .1)
+    filled-all _ _ (one-record _ _ _ (start .args .block .now)) _ (start .args .fragments .now) (start .pre .1 .1 .1) (c .before .loop .index) (c .before .loop .fragments) (omega arith) (c .before .loop .inv .1)
 
 pub write-each-spec : {M : Type 1} → statement M
 write-each-spec =

@@ -21,7 +21,7 @@ body-length-requires : tie.Need-body-length-requires
 body-length-requires c κs = search needs
 
 cast-size : tie.Need-cast-size
-cast-size c = omega (arith, c .body-length .ensures, body-length-fits (length (c .before .before .before .args .block .now)) (c .before .before .before .args .m) (c .before .before .before .pre .0 .1) (c .before .before .before .pre .0 .0))
+cast-size c = omega (arith, c .body-length .ensures, body-length-fits (length (c .before .before .before .args .block .now)) (c .before .before .before .args .m) (c .before .before .before .pre .0 .2) (c .before .before .before .pre .0 .0))
 
 points-requires : tie.Need-points-requires
 points-requires c κs = search needs
@@ -56,8 +56,8 @@ slice-aggregate-write-each-2 c = back-count _ (c .before .before .before .spread
 write-each-requires : tie.Need-write-each-requires
 write-each-requires c κs =
     let start = c .before .before .before .before .before .before .before .before .before .before .before in (
-      (ap (take (c .before .before .before .before .before .before .before .before .before .before .before .args .m)) (c .before .before .before .before .before .before .before .points .ensures) ∙ points-prefix (c .before .before .before .before .before .before .before .before .before .before .before .args .m) 255 (omega arith)),
-      (back _ (c .before .before .before .before .spreads .last .1 .1 .0) (drop (c .before .before .before .before .before .before .before .before .before .before .before .args .m) (replicate 255 0)) _ (c .before .before .before .before .spreads .ensures) (listed-length _ _), start .pre .1 ∙ sym (ap (λ (F : ℕ). start .args .n * record-length written-version F) (c .before .before .before .before .before .before .before .before .body-length .ensures))),
+      start .pre .0 .1,
+      ((ap (take (c .before .before .before .before .before .before .before .before .before .before .before .args .m)) (c .before .before .before .before .before .before .before .points .ensures) ∙ points-prefix (c .before .before .before .before .before .before .before .before .before .before .before .args .m) 255 (omega arith)), (back _ (c .before .before .before .before .spreads .last .1 .1 .0) (drop (c .before .before .before .before .before .before .before .before .before .before .before .args .m) (replicate 255 0)) _ (c .before .before .before .before .spreads .ensures) (listed-length _ _), start .pre .1 ∙ sym (ap (λ (F : ℕ). start .args .n * record-length written-version F) (c .before .before .before .before .before .before .before .before .body-length .ensures)))),
     )
 
 same-length : tie.Need-same-length
