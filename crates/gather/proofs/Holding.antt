@@ -1,12 +1,11 @@
 -- What is held of the used records: one record passed over, one more used, and whether an index is among them.
-use mathlib.Core.Path.{_≡_, refl, sym, ap, ap₂, _∙_}
+use mathlib.Core.Path.{_≡_, refl, sym, ap, ap₂, subst, _∙_}
 use mathlib.Core.Bool.{Bool, true, false, _||_}
 use mathlib.Core.List.{List, [], _∷_, _++_, map}
 use Prim.Native.Nat.{ℕ, zero, suc, _+_, _-_, _<_, _≤_}
-use native.Mathlib.Nat.{not-suc-le-zero, le-of-suc-le-suc}
+use native.Mathlib.Nat.{not-suc-le-zero, le-of-suc-le-suc, le-trans, le-of-eq}
 use native.Mathlib.Numerals.{add-one}
 use native.Mathlib.Omega.{arith}
-use lib.Dec.{eqb}
 use lib.ListN.{length, getD, take, drop, set, replicate, length-append, length-map, drop-of-length-le}
 use lib.Seq.{append-snoc, set-at, take-at}
 use borrow.Author.Tests.{eq-eqb, ne-eqb}
@@ -31,9 +30,26 @@ of-255-more l x n e h =
     rest : 255 - length (l ++ (x ∷ [])) ≡ 254 - n
     rest = omega (arith, length-append l (x ∷ []))
 
+of-255-holds : (l : List ℕ) → length l ≤ length (of-255 l)
+unfolding of-255
+of-255-holds l = omega (arith, length-append l (replicate (255 - length l) 0))
+
 map-more : {A B : Type 0} (f : A → B) (l : List A) (a : A) → map f (l ++ (a ∷ [])) ≡ map f l ++ (f a ∷ [])
 map-more f [] a = refl
 map-more f (b ∷ l) a = ap (λ (k : List _). f b ∷ k) (map-more f l a)
+
+-- a record is passed over, and one with index i is used, as the code has it
+abbrev pub passed : Gathered → Gathered
+passed g = record { count = g .count; read = g .read + 1; indexes = g .indexes; places = g .places }
+
+abbrev pub taken : Gathered → ℕ → Gathered
+taken g i =
+    record {
+      count = g .count + 1;
+      read = g .read + 1;
+      indexes = set (g .indexes) (g .count) i;
+      places = set (g .places) (g .count) (g .read);
+    }
 
 module _ (g : Gathered) (us : List Used) (is : g ≡ held us (g .read)) where
   pub count-held : g .count ≡ length us
@@ -47,13 +63,13 @@ module _ (g : Gathered) (us : List Used) (is : g ≡ held us (g .read)) where
       ap₂ take count-held (ap (λ (h : Gathered). h .indexes) is) ∙ take-at (map (λ u. u .index) us) _ (length us) (length-map us (λ u. u .index))
 
   pub count-within : g .count ≤ length (g .indexes)
-  unfolding held of-255
+  unfolding held
   count-within =
-      omega (arith, count-held, length-map us (λ u. u .index), ap (λ (h : Gathered). length (h .indexes)) is, length-append (map (λ u. u .index) us) (replicate (255 - length (map (λ u. u .index) us)) 0))
+      subst (λ (l : List ℕ). g .count ≤ length l) (sym (ap (λ (h : Gathered). h .indexes) is))
+      (le-trans (le-of-eq (count-held ∙ sym (length-map us (λ u. u .index)))) (of-255-holds (map (λ u. u .index) us)))
 
   -- passed over, nothing else is held
-  pub held-passed : (r : Gathered) → r ≡ record { count = g .count; read = g .read + 1; indexes = g .indexes; places = g .places }
-      → (vs : List Used) → vs ≡ us → r ≡ held vs (g .read + 1)
+  pub held-passed : (r : Gathered) → r ≡ passed g → (vs : List Used) → vs ≡ us → r ≡ held vs (g .read + 1)
   unfolding held
   held-passed r e vs same =
       e
@@ -61,8 +77,7 @@ module _ (g : Gathered) (us : List Used) (is : g ≡ held us (g .read)) where
       ∙ ap (λ (ws : List Used). held ws (g .read + 1)) (sym same)
 
   -- used, its index and its place are held behind the others
-  pub held-taken : (i : ℕ) → g .count < 255 → (r : Gathered)
-      → r ≡ record { count = g .count + 1; read = g .read + 1; indexes = set (g .indexes) (g .count) i; places = set (g .places) (g .count) (g .read) }
+  pub held-taken : (i : ℕ) → g .count < 255 → (r : Gathered) → r ≡ taken g i
       → (vs : List Used) → vs ≡ us ++ (record { index = i; place = g .read } ∷ []) → r ≡ held vs (g .read + 1)
   unfolding held
   held-taken i room r e vs more =

@@ -1,9 +1,9 @@
 -- What is used of records: accepted ones, with different indexes, at most m, and while there are fewer every index that was accepted.
-use mathlib.Core.Path.{_≡_, refl, sym, ap, ap₂, subst, _∙_}
+use mathlib.Core.Path.{_≡_, refl, sym, ap, subst, _∙_}
 use mathlib.Core.Logic.{_≢_, _⊎_, inl, inr, ⊎-elim}
 use mathlib.Core.Bool.{Bool, true, false, not, _&&_, _||_, cond, true≢false, false≢true}
 use mathlib.Core.List.{List, [], _∷_, _++_, map}
-use Prim.Native.Nat.{ℕ, zero, suc, _+_, _<_, _≤_, zero-le}
+use Prim.Native.Nat.{ℕ, zero, suc, _<_, _≤_, zero-le}
 use native.Mathlib.Nat.{not-suc-le-zero, le-refl, le-step, le-of-suc-le-suc, eq-or-lt-of-le, lt-trans, lt-suc-self, ne-of-lt}
 use native.Mathlib.Numerals.{add-one, lt-of-le-of-ne}
 use lib.Dec.{eqb}

@@ -1,12 +1,11 @@
 -- Gathering: "It reads records in order, passes over refused ones and those whose index it already has, and stops at the m-th it uses."
-use mathlib.Core.Bool.{Bool, true, false, not, _&&_, _||_, cond}
+use mathlib.Core.Bool.{Bool, false, not, _&&_, _||_, cond}
 use mathlib.Core.List.{List, [], _∷_, _++_, map}
 use Prim.Native.Nat.{ℕ, zero, suc, _+_, _-_, _*_, _/_}
 use lib.Dec.{eqb}
 use lib.ListN.{length, take, drop, replicate}
 use Rattle.record.specs.Layout.{record-length}
 use Rattle.record.specs.Heads.{check-head-of}
-use Rattle.inspect.specs.Answer.{Answer}
 use Rattle.inspect.specs.Check.{size-of, checked}
 use Rattle.gather.specs.declared.Gathered.{Gathered}
 

@@ -51,24 +51,24 @@ step-requires c κs =
     let turn = c .before .before .before .before in
     let laid = turn .before in (
       turn .loop .inv .so-far,
-      (omega (arith, c .before .before .if1 .taken, end-is laid), omega (arith, ltb-true (turn .loop .held .count) (laid .before .wide .result) (c .if2 .taken), m-is laid)),
+      (omega (arith, end-is laid), omega (arith, ltb-true, m-is laid)),
     )
+
+abbrev turned : tie.After-step Inv-loop μ-loop → tie.At-loop Inv-loop μ-loop
+turned c = c .before .before .before .before .before
 
 -- after a turn
 next : (c : tie.After-step Inv-loop μ-loop)
-    → Read (start (c .before .before .before .before .before .before) .args .wanted) (start (c .before .before .before .before .before .before) .args .check .now)
-    (start (c .before .before .before .before .before .before) .args .records .now) (c .step .result)
-    × (c .step .result .read ≡ c .before .before .before .before .before .loop .held .read + 1)
+    → let a = start (turned c .before) .args in
+    Read (a .wanted) (a .check .now) (a .records .now) (c .step .result) × (c .step .result .read ≡ turned c .loop .held .read + 1)
 next c =
-    let turn = c .before .before .before .before .before in
-    let laid = turn .before in
+    let laid = turned c .before in
     let a = start laid .args in
-    goes-on (a .wanted) (a .check .now) (a .records .now) _ (turn .loop .inv)
-    (omega (arith, c .before .before .before .if1 .taken, end-is laid)) (omega (arith, ltb-true (turn .loop .held .count) (laid .before .wide .result) (c .before .if2 .taken), m-is laid))
-    _ (c .step .ensures)
+    goes-on (a .wanted) (a .check .now) (a .records .now) _ (turned c .loop .inv)
+    (omega (arith, end-is laid)) (omega (arith, ltb-true, m-is laid)) _ (c .step .ensures)
 
 loop-less : tie.Need-loop-less Inv-loop μ-loop
-loop-less c = omega (arith, next c .1, c .before .before .before .if1 .taken)
+loop-less c = omega (arith, next c .1)
 
 loop-again : tie.Need-loop-again Inv-loop μ-loop
 loop-again c = next c .0
@@ -78,14 +78,14 @@ returns c =
     let turn = c .before .before .before .before in
     let laid = turn .before in
     let a = start laid .args in
-    ends-full (a .wanted) (a .check .now) (a .records .now) _ (turn .loop .inv) (omega (arith, ltb-false (turn .loop .held .count) (laid .before .wide .result) (c .if2 .left), m-is laid))
+    ends-full (a .wanted) (a .check .now) (a .records .now) _ (turn .loop .inv) (omega (arith, ltb-false, m-is laid))
 
 returns-2 : tie.Need-returns-2 Inv-loop μ-loop
 returns-2 c =
     let turn = c .before .before in
     let laid = turn .before in
     let a = start laid .args in
-    ends-last (a .wanted) (a .check .now) (a .records .now) _ (turn .loop .inv) (omega (arith, c .if1 .left, end-is laid))
+    ends-last (a .wanted) (a .check .now) (a .records .now) _ (turn .loop .inv) (omega (arith, end-is laid))
 
 pub gather-spec : {M : Type 1} → statement M
 gather-spec =

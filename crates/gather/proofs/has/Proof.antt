@@ -4,7 +4,6 @@ use Prim.Native.Nat.{_-_, _≤_}
 use native.Mathlib.Omega.{arith}
 use lib.ListN.{length}
 use Rattle.gather.proofs.Holding.{Ahead, found, not-yet, nowhere}
-use borrow.Author.Needs.{needs}
 use Rattle.gather.proofs.has.Statement.{statement}
 use Rattle.gather.proofs.has.Tie as tie
 
