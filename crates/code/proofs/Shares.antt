@@ -23,7 +23,7 @@ use Rattle.code.proofs.Plain.{Small, there-and-back, different, in-map,
 use Rattle.code.proofs.Spreads.{but-same, but-other, swapped, product-some, sum-some, spread-some, weight-spread, weight-quotient, divided, number-but}
 
 -- an entry of a list, and what a function makes of it
-in-at : (l : List ℕ) (k : ℕ) → k < length l → In (getD l k 0) l
+pub in-at : (l : List ℕ) (k : ℕ) → k < length l → In (getD l k 0) l
 in-at [] k h = absurd (not-suc-le-zero h)
 in-at (a ∷ l) zero h = inl refl
 in-at (a ∷ l) (suc k) h = inr (in-at l k (le-of-suc-le-suc h))
