@@ -50,7 +50,7 @@ module _ (wanted : ℕ) (check records : List ℕ) where
   abbrev m : ℕ
   m = check-head-of check .m
 
-  abbrev answer-at : ℕ → Answer
+  abbrev pub answer-at : ℕ → Answer
   answer-at k = checked wanted check (record-at check records k)
 
   -- what holds of the records used among the first k
@@ -62,7 +62,7 @@ module _ (wanted : ℕ) (check records : List ℕ) where
     pub seen : length us < m → (j : ℕ) → j < k → answer-at j .number ≡ 0 → In (answer-at j .value) (indexes us)
 
   -- whether record k is used, after those used before it
-  abbrev takes : ℕ → List Used → Bool
+  abbrev pub takes : ℕ → List Used → Bool
   takes k us = not (eqb (length us) m) && (eqb (answer-at k .number) 0 && not (has-index (answer-at k .value) us))
 
   none-used : Sound 0 []

@@ -1,13 +1,14 @@
 -- Gathering: "It reads records in order, passes over refused ones and those whose index it already has, and stops at the m-th it uses."
 use mathlib.Core.Bool.{Bool, true, false, not, _&&_, _||_, cond}
 use mathlib.Core.List.{List, [], _∷_, _++_, map}
-use Prim.Native.Nat.{ℕ, zero, suc, _+_, _*_, _/_}
-use lib.Dec.{eqb, leb}
-use lib.ListN.{length, getD, take, drop}
+use Prim.Native.Nat.{ℕ, zero, suc, _+_, _-_, _*_, _/_}
+use lib.Dec.{eqb}
+use lib.ListN.{length, take, drop, replicate}
 use Rattle.record.specs.Layout.{record-length}
 use Rattle.record.specs.Heads.{check-head-of}
 use Rattle.inspect.specs.Answer.{Answer}
 use Rattle.inspect.specs.Check.{size-of, checked}
+use Rattle.gather.specs.declared.Gathered.{Gathered}
 
 -- how long each of the records is: 18 + F
 unfoldable pub stride : List ℕ → ℕ
@@ -39,11 +40,33 @@ used wanted check records (suc k) =
 unfoldable pub count-of : List ℕ → List ℕ → ℕ
 count-of check records = length records / stride check
 
+-- the place of the last one used, counted from 1
+unfoldable pub last-place : List Used → ℕ
+last-place [] = 0
+last-place (u ∷ []) = suc (u .place)
+last-place (u ∷ v ∷ us) = last-place (v ∷ us)
+
 -- "It returns how many records were read: the place of the last one used, counted from 1. With 13 it returns k"
 unfoldable pub read-count : ℕ → List Used → ℕ → ℕ
 read-count m us k = cond (eqb (length us) m) (last-place us) k
-  where
-    last-place : List Used → ℕ
-    last-place [] = 0
-    last-place (u ∷ []) = suc (u .place)
-    last-place (u ∷ v ∷ us) = last-place (v ∷ us)
+
+-- numbers at the start of 255, zeros behind them
+unfoldable pub of-255 : List ℕ → List ℕ
+of-255 l = l ++ replicate (255 - length l) 0
+
+-- what is held of these used records when so many are read
+unfoldable pub held : List Used → ℕ → Gathered
+held us read =
+    record {
+      count = length us;
+      read = read;
+      indexes = of-255 (map (λ u. u .index) us);
+      places = of-255 (map (λ u. u .place) us);
+    }
+
+-- what is gathered of all the records
+unfoldable pub gathered : ℕ → List ℕ → List ℕ → Gathered
+gathered wanted check records =
+    let k = count-of check records in
+    let us = used wanted check records k in
+    held us (read-count (check-head-of check .m) us k)

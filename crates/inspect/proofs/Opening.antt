@@ -21,7 +21,7 @@ use Rattle.inspect.proofs.Shaped.{body-within}
 use Rattle.inspect.proofs.Called.{fragment-fits}
 
 -- no reason has the number 0
-no-zero : (x : Reason) → eqb (reason-answer x .number) 0 ≡ false
+pub no-zero : (x : Reason) → eqb (reason-answer x .number) 0 ≡ false
 no-zero CheckMark = refl
 no-zero CheckShape = refl
 no-zero OtherBlock = refl
