@@ -1,4 +1,5 @@
 // Joining a block.
+mod block;
 mod regain;
 
 // What a join answers: the number, how many records were read, and how many different indexes were accepted.
