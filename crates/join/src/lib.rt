@@ -29,10 +29,11 @@ pub fn join(wanted: u64, check: &[u8], records: &[u8], out: &mut [u8]) -> Joined
     let held = gather::gather(wanted, check, records);
     let head = record::read_check(check);
     let count = held.count;
+    let read = held.read as u64;
     if count != head.m as usize {
         return Joined {
             number: 13,
-            read: held.read as u64,
+            read,
             indexes: count as u64,
         };
     }
@@ -50,7 +51,7 @@ pub fn join(wanted: u64, check: &[u8], records: &[u8], out: &mut [u8]) -> Joined
     );
     Joined {
         number,
-        read: held.read as u64,
+        read,
         indexes: count as u64,
     }
 }
