@@ -56,7 +56,7 @@ module _ {A : Type 0} (K : Carrier A) (L : Laws K) where
       ∙ ap (λ (x : A). (t ⊕ q) ⊗ x) (but-neither ps p t (hp .1) (ht .1))
       ∙ sym (but-other K q ps t t (same-not K L t q (ht .0)))
 
-  swapped : (a b c : A) → a ⊗ (b ⊗ c) ≡ b ⊗ (a ⊗ c)
+  pub swapped : (a b c : A) → a ⊗ (b ⊗ c) ≡ b ⊗ (a ⊗ c)
   swapped a b c = simp (ring, L)
 
   -- what was left out of the spread, put back
@@ -73,14 +73,14 @@ module _ {A : Type 0} (K : Carrier A) (L : Laws K) where
       ∙ ap (λ (x : A). (t ⊕ q) ⊗ x) (but-back ps p t (d .1) i (ht .1))
       ∙ sym (but-other K q ps t t (same-not K L t q (ht .0)))
 
-  product-some : (a b : A) → a ≢ none → b ≢ none → a ⊗ b ≢ none
+  pub product-some : (a b : A) → a ≢ none → b ≢ none → a ⊗ b ≢ none
   product-some a b ha hb e = ⊎-elim ha hb (L .no-zero-divisors a b e)
 
-  sum-some : (a b : A) → a ≢ b → a ⊕ b ≢ none
+  pub sum-some : (a b : A) → a ≢ b → a ⊕ b ≢ none
   sum-some a b ne e = ne (same-of-sum K L a b e)
 
   -- a spread is not zero
-  spread-some : (ps : List A) (p : A) → spread K ps p ≢ none
+  pub spread-some : (ps : List A) (p : A) → spread K ps p ≢ none
   unfolding spread spread-but
   spread-some [] p = L .unit-not-none
   spread-some (q ∷ ps) p = go (same p q) refl (spread-some ps p)
@@ -96,7 +96,7 @@ module _ {A : Type 0} (K : Carrier A) (L : Laws K) where
     regroup a i w d s = simp (ring, L)
 
     -- a weight's denominators, multiplied back in
-    weight-spread : (ps : List A) (p t : A) → weight K inverse ps p t ⊗ spread K ps p ≡ spread-but K ps p t
+    pub weight-spread : (ps : List A) (p t : A) → weight K inverse ps p t ⊗ spread K ps p ≡ spread-but K ps p t
     unfolding weight spread spread-but
     weight-spread [] p t = unit-product K L unit
     weight-spread (q ∷ ps) p t = go (same p q) refl (weight-spread ps p t)
@@ -112,13 +112,13 @@ module _ {A : Type 0} (K : Carrier A) (L : Laws K) where
             ∙ ap₂ (λ (x y : A). x ⊗ ((t ⊕ q) ⊗ y)) (inv (p ⊕ q) (sum-some p q (not-same K L p q e))) rest
             ∙ unit-product K L _ ∙ sym (but-other K q ps p t e)
 
-    divided : (a b c : A) → b ≢ none → a ⊗ b ≡ c → a ≡ c ⊗ inverse b
+    pub divided : (a b c : A) → b ≢ none → a ⊗ b ≡ c → a ≡ c ⊗ inverse b
     divided a b c h e =
         sym (L .times-unit a) ∙ ap (λ (x : A). a ⊗ x) (sym (inv b h)) ∙ sym (L .times-assoc a b (inverse b))
         ∙ ap (λ (x : A). x ⊗ inverse b) e
 
     -- for any points
-    weight-quotient : (ps : List A) (p t : A) → weight K inverse ps p t ≡ spread-but K ps p t ⊗ inverse (spread K ps p)
+    pub weight-quotient : (ps : List A) (p t : A) → weight K inverse ps p t ≡ spread-but K ps p t ⊗ inverse (spread K ps p)
     weight-quotient ps p t = divided _ _ _ (spread-some ps p) (weight-spread ps p t)
 
     -- for different points, p among them and t not
@@ -129,7 +129,7 @@ module _ {A : Type 0} (K : Carrier A) (L : Laws K) where
         (swapped _ (t ⊕ p) (spread K ps p) ∙ ap (λ (x : A). (t ⊕ p) ⊗ x) (weight-spread ps p t) ∙ but-back ps p t d i ht)
 
 module _ (ps : List ℕ) (small : All Small ps) where
-  number-but : (p t : ℕ) → Small p → Small t
+  pub number-but : (p t : ℕ) → Small p → Small t
       → number (spread-but field (map byte ps) (byte p) (byte t)) ≡ spread-but plain.bytes ps p t
   number-but p t hp ht =
       but-carried field plain.bytes number number-carries (map byte ps) (byte p) (byte t)

@@ -1,4 +1,5 @@
 pub mod Adding
 pub mod Cutting
 pub mod Joining
+pub mod Shares
 pub mod Weights

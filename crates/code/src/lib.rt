@@ -1,5 +1,7 @@
-// The m-of-n code: how long a body is, how much each of the first m bodies counts in a body, and the one inner loop that adds
-// a multiple of a body to a sum. No function asks anything of its caller.
+// The m-of-n code: how long a body is, how much each of the first m bodies counts in a body, how much each of any bodies counts in
+// another, and the one inner loop that adds a multiple of a body to a sum. No function asks anything of its caller.
+mod weights;
+
 ghost use mathlib.Core.Path.{_≡_};
 ghost use Prim.Native.Nat.{min};
 ghost use Rattle.algebra.specs.Polynomial as polynomial;
@@ -7,6 +9,8 @@ ghost use Rattle.field.specs.Byte.{bytes, inverse};
 ghost use Rattle.code.specs.Cutting as cutting;
 ghost use Rattle.code.specs.Weights as weights;
 ghost use Rattle.code.specs.Adding as adding;
+pub use weights::each_share;
+pub use weights::each_spread;
 
 // F for a block of `length` bytes; 0 where m is 0.
 pub fn body_length(length: u32, m: u8) -> usize
