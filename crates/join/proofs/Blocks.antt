@@ -1,6 +1,6 @@
 -- Parts of the padded block: the weights from the shares, the runs of one body, and the look at the fill.
 use mathlib.Core.Path.{_≡_, refl, sym, ap, ap₂, subst, _∙_}
-use mathlib.Core.Bool.{Bool, true, false, _&&_}
+use mathlib.Core.Bool.{Bool, true, false, _&&_, cond}
 use mathlib.Core.List.{List, [], _∷_, _++_, map}
 use Prim.Native.Nat.{ℕ, zero, suc, _+_, _-_, _*_, _/_, _%_, _<_, _≤_}
 use native.Mathlib.Nat.{not-suc-le-zero, le-of-suc-le-suc, add-assoc, mod-lt, mod-eq-of-lt, div-eq-of-lt, div-add-mod', mul-add-div-right, mul-add-mod-self-right, add-zero, zero-add}
@@ -118,6 +118,17 @@ pub block-start : (indexes places records : List ℕ) (stride size n : ℕ) (out
     → out ≡ listed n (block-byte indexes places records stride size)
 block-start indexes places records stride size n out e =
     e ∙ listed-same n _ _ (λ k h. ap (block-byte indexes places records stride size) (zero-add k))
+
+-- the number that the look at the fill gives
+pub fill-looked : (seen t : Bool) (room fill : List ℕ) → seen ≡ all-zero room → room ≡ fill → seen ≡ t → _≡_ {A = ℕ} (cond t 0 14) (cond (all-zero fill) 0 14)
+fill-looked seen t room fill e same h = ap {B = ℕ} (λ (b : Bool). cond b 0 14) (sym h ∙ e ∙ ap all-zero same)
+
+-- an output that a number other than 0 leaves, and one that goes with 0
+pub number-keeps : (r : ℕ) (block out : List ℕ) → (r ≡ 0 → ⊥) → out ≡ cond (eqb r 0) block out
+number-keeps r block out h = sym (ap (λ (b : Bool). cond b block out) (ne-eqb r 0 h))
+
+pub number-gives : (r : ℕ) (block out : List ℕ) → r ≡ 0 → block ≡ cond (eqb r 0) block out
+number-gives r block out h = sym (ap (λ (b : Bool). cond b block out) (eq-eqb r 0 h))
 
 -- zero bytes from the end on, all of them, and one that is none
 pub zero-none : (s : List ℕ) → all-zero (drop (length s) s) ≡ true

@@ -71,8 +71,8 @@ fn write_part(
     }
 }
 
-// Whether the bytes of the padded block from `length` on are zero: fewer than three for each body.
-fn fill_is_zero(
+// 14 where a byte of the padded block from `length` on is not zero, or 0: there are fewer than three for each body.
+fn fill_number(
     length: usize,
     size: usize,
     records: &[u8],
@@ -80,12 +80,12 @@ fn fill_is_zero(
     indexes: &[u8],
     spreads: &[u8],
     places: &[usize],
-) -> bool
+) -> u32
     requires { ⌜ (length ≤ lib.ListN.length (now indexes) * size) × ((lib.ListN.length (now indexes) * size < length + 768) × (lib.ListN.length (now indexes) * size < 2 ^ 64)) ⌝ }
     requires { ⌜ (size ≤ stride) × ((lib.ListN.length (now indexes) ≤ 255) × Distinct (now indexes)) ⌝ }
     requires { ⌜ now spreads ≡ map (spread bytes (now indexes)) (now indexes) ⌝ }
     requires { ⌜ (lib.ListN.length (now places) ≡ lib.ListN.length (now indexes)) × All (λ k. k * stride + stride ≤ lib.ListN.length (now records)) (now places) ⌝ }
-    ensures { λ r. ⌜ r ≡ all-zero (listed (lib.ListN.length (now (indexes .entry)) * size - length) (λ k. block-byte (now (indexes .entry)) (now (places .entry)) (now (records .entry)) stride size (length + k))) ⌝ }
+    ensures { λ r. ⌜ r ≡ cond (all-zero (listed (lib.ListN.length (now (indexes .entry)) * size - length) (λ k. block-byte (now (indexes .entry)) (now (places .entry)) (now (records .entry)) stride size (length + k)))) 0 14 ⌝ }
 {
     let mut room = [0u8; 768];
     let count = indexes.len() * size - length;
@@ -99,7 +99,10 @@ fn fill_is_zero(
         spreads,
         places,
     );
-    zeros(&room[..count])
+    if zeros(&room[..count]) {
+        return 0;
+    }
+    14
 }
 
 fn zeros(s: &[u8]) -> bool
@@ -140,9 +143,10 @@ pub(crate) fn rebuild(
     let count = indexes.len();
     code::each_spread(indexes, &mut room[..count]);
     let spreads = &room[..count];
-    if !fill_is_zero(out.len(), size, records, stride, indexes, spreads, places) {
-        return 14;
+    let number = fill_number(out.len(), size, records, stride, indexes, spreads, places);
+    if number != 0 {
+        return number;
     }
     write_part(out, 0, size, records, stride, indexes, spreads, places);
-    0
+    number
 }

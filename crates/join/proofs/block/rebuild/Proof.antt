@@ -1,11 +1,9 @@
 -- `join::block::rebuild` meets its contract: the output is written only where the fill is zero.
-use mathlib.Core.Path.{refl, sym, ap, _∙_}
-use mathlib.Core.Bool.{Bool, cond}
+use mathlib.Core.Path.{sym, _∙_}
 use Prim.Native.Nat.{ℕ, _+_, _-_, _*_}
 use native.Mathlib.Omega.{arith}
 use lib.ListN.{length, take, replicate}
-use borrow.Author.Tests.{not-true, not-false}
-use Rattle.join.proofs.Blocks.{spread-all, block-start}
+use Rattle.join.proofs.Blocks.{spread-all, block-start, number-keeps, number-gives}
 use Rattle.join.proofs.Rooms.{lent, back, back-count, back-within}
 use borrow.Author.Needs.{needs}
 use Rattle.join.proofs.block.rebuild.Statement.{statement}
@@ -34,8 +32,8 @@ slice-aggregate-spreads c =
     let a = call .before .before .before .before .before .before .args in
     back-count (length (a .indexes .now)) (replicate 255 0) (omega arith) (call .each-spread .last .1 .0) (call .each-spread .kept .1 .0)
 
-fill-is-zero-requires : tie.Need-fill-is-zero-requires
-fill-is-zero-requires c κs =
+fill-number-requires : tie.Need-fill-number-requires
+fill-number-requires c κs =
     let call = c .before .before in
     let start = call .before .before .before .before .before .before in
     let a = start .args in
@@ -53,7 +51,7 @@ fill-is-zero-requires c κs =
     )
 
 returns : tie.Need-returns
-returns c = (sym (ap (λ (b : Bool). cond b 0 14) (sym (c .before .fill-is-zero .ensures) ∙ not-true _ (c .if1 .taken))), refl)
+returns c = (c .before .fill-number .ensures, number-keeps (c .before .fill-number .result) _ _ (λ e. omega (arith, e, c .if1 .taken)))
 
 write-part-requires : tie.Need-write-part-requires
 write-part-requires c κs =
@@ -80,8 +78,9 @@ returns-2 : tie.Need-returns-2
 returns-2 c =
     let tested = c .before .before .before .before in
     let a = tested .before .before .before .before .before .before .before .before .before .before .args in (
-      sym (ap (λ (b : Bool). cond b 0 14) (sym (tested .before .fill-is-zero .ensures) ∙ not-false _ (tested .if1 .left))),
-      block-start (a .indexes .now) (a .places .now) (a .records .now) (a .stride) (a .size) _ _ (c .before .before .write-part .ensures),
+      tested .before .fill-number .ensures,
+      block-start (a .indexes .now) (a .places .now) (a .records .now) (a .stride) (a .size) _ _ (c .before .before .write-part .ensures)
+          ∙ number-gives (tested .before .fill-number .result) _ _ (omega (arith, tested .if1 .left)),
     )
 
 pub rebuild-spec : {M : Type 1} → statement M
@@ -93,7 +92,7 @@ rebuild-spec =
     each-spread-requires
     array-share-prefix-room
     slice-aggregate-spreads
-    fill-is-zero-requires
+    fill-number-requires
     returns
     write-part-requires
     same-length

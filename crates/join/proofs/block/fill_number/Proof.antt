@@ -1,15 +1,16 @@
--- `join::block::fill_is_zero` meets its contract: the fill is written to a room of its own, and looked at there.
+-- `join::block::fill_number` meets its contract: the fill is written to a room of its own, and looked at there.
 use mathlib.Core.Path.{sym, ap, _∙_}
+use mathlib.Core.Bool.{true, false}
 use Prim.Native.Nat.{ℕ, _+_, _-_, _*_}
 use native.Mathlib.Omega.{arith}
 use lib.ListN.{length, replicate}
 use Rattle.algebra.specs.Several.{listed}
-use Rattle.join.specs.Join.{all-zero}
 use Rattle.join.specs.Parts.{block-byte}
+use Rattle.join.proofs.Blocks.{fill-looked}
 use Rattle.join.proofs.Rooms.{lent, back, back-count, back-within}
 use borrow.Author.Needs.{needs}
-use Rattle.join.proofs.block.fill_is_zero.Statement.{statement}
-use Rattle.join.proofs.block.fill_is_zero.Tie as tie
+use Rattle.join.proofs.block.fill_number.Statement.{statement}
+use Rattle.join.proofs.block.fill_number.Tie as tie
 
 mul-count : tie.Need-mul-count
 mul-count c = search needs
@@ -49,18 +50,30 @@ zeros-requires c κs = search needs
 
 returns : tie.Need-returns
 returns c =
-    let call = c .before .before .before in
+    let call = c .before .before .before .before in
     let a = call .before .before .before .before .before .before .args in
     let n = length (a .indexes .now) * a .size - a .length in
-    c .zeros .ensures
-    ∙ ap all-zero
+    fill-looked _ true _ _ (c .before .zeros .ensures)
     (back n (replicate 768 0) (omega arith) (call .write-part .last .0) (call .write-part .kept .0)
     ∙ call .write-part .ensures
     ∙ ap (λ (k : ℕ). listed k (λ j. block-byte (a .indexes .now) (a .places .now) (a .records .now) (a .stride) (a .size) (a .length + j)))
     (sym (lent n (replicate 768 0) (omega arith))))
+    (c .if1 .taken)
 
-pub fill-is-zero-spec : {M : Type 1} → statement M
-fill-is-zero-spec =
+returns-2 : tie.Need-returns-2
+returns-2 c =
+    let call = c .before .before .before .before in
+    let a = call .before .before .before .before .before .before .args in
+    let n = length (a .indexes .now) * a .size - a .length in
+    fill-looked _ false _ _ (c .before .zeros .ensures)
+    (back n (replicate 768 0) (omega arith) (call .write-part .last .0) (call .write-part .kept .0)
+    ∙ call .write-part .ensures
+    ∙ ap (λ (k : ℕ). listed k (λ j. block-byte (a .indexes .now) (a .places .now) (a .records .now) (a .stride) (a .size) (a .length + j)))
+    (sym (lent n (replicate 768 0) (omega arith))))
+    (c .if1 .left)
+
+pub fill-number-spec : {M : Type 1} → statement M
+fill-number-spec =
     tie.close
     (tie.spec
     mul-count
@@ -71,4 +84,5 @@ fill-is-zero-spec =
     array-share-prefix-room
     slice-aggregate-zeros
     zeros-requires
-    returns)
+    returns
+    returns-2)
