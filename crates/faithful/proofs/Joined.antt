@@ -24,7 +24,8 @@ use Rattle.cut.specs.Cut as cut
 use Rattle.gather.specs.Gather.{Used, stride, record-at, used, count-of, read-count}
 use Rattle.gather.proofs.Used.{indexes, Sound, sound}
 use Rattle.join.specs.Join.{body-with, all-used, padded, all-zero, lengths-fit, join-number, join-output}
-use Rattle.faithful.proofs.Padded.{any-filled, take-filled, fill-zero, room}
+use Rattle.join.proofs.Found.{room}
+use Rattle.faithful.proofs.Padded.{any-filled, take-filled, fill-zero}
 
 -- what theorem `Accepted` shows of a cut and its check record, as far as a join wants it
 pub record Honest (m n number : ℕ) (block check : List ℕ) : Type 0 where

@@ -3,8 +3,7 @@ use mathlib.Core.Path.{_≡_, refl, sym, ap, ap₂, subst, _∙_}
 use mathlib.Core.Bool.{true, _&&_}
 use mathlib.Core.List.{List, [], _∷_, _++_, map}
 use Prim.Native.Nat.{ℕ, zero, suc, _+_, _-_, _*_, _/_, _%_, _<_, _≤_}
-use native.Mathlib.Nat.{add-sub-of-le, lt-div-mul-add}
-use native.Mathlib.Omega.{arith}
+use native.Mathlib.Nat.{add-sub-of-le}
 use lib.Dec.{lit<}
 use lib.ListN.{length, getD, take, drop, replicate, length-append, length-replicate}
 use lib.Seq.{take-append-seam, drop-append-seam}
@@ -12,7 +11,7 @@ use Rattle.algebra.specs.Several.{listed, All, Distinct}
 use Rattle.algebra.specs.Polynomial.{value, interpolate}
 use Rattle.algebra.proofs.Several.{all-at, all-of, map-same, listed-same}
 use Rattle.field.specs.Byte.{bytes, inverse}
-use Rattle.code.specs.Cutting.{body-length, filled, points, source, byte-of, body}
+use Rattle.code.specs.Cutting.{filled, points, source, byte-of, body}
 use Rattle.code.specs.Joining.{regained, joined}
 use Rattle.code.proofs.Plain.{Small}
 use Rattle.code.proofs.Bodies.{any-block}
@@ -78,11 +77,3 @@ take-filled m F block = take-append-seam block _
 pub fill-zero : (m F : ℕ) (block : List ℕ) → all-zero (drop (length block) (filled m F block)) ≡ true
 unfolding filled
 fill-zero m F block = ap all-zero (drop-append-seam block _) ∙ zeros-zero (m * F - length block)
-
--- F is long enough for the block
-pub room : (L m : ℕ) → 1 ≤ m → L ≤ m * body-length L m
-unfolding body-length
-room L m h = within ((L + (3 * m - 1)) / (3 * m)) (lt-div-mul-add (omega arith))
-  where
-    within : (q : ℕ) → L + (3 * m - 1) < q * (3 * m) + 3 * m → L ≤ m * (3 * q)
-    within q l = omega arith
