@@ -120,8 +120,8 @@ block-start indexes places records stride size n out e =
     e ∙ listed-same n _ _ (λ k h. ap (block-byte indexes places records stride size) (zero-add k))
 
 -- the number that the look at the fill gives
-pub fill-looked : (seen t : Bool) (room fill : List ℕ) → seen ≡ all-zero room → room ≡ fill → seen ≡ t → _≡_ {A = ℕ} (cond t 0 14) (cond (all-zero fill) 0 14)
-fill-looked seen t room fill e same h = ap {B = ℕ} (λ (b : Bool). cond b 0 14) (sym h ∙ e ∙ ap all-zero same)
+pub fill-looked : (t : Bool) (fill : List ℕ) → t ≡ all-zero fill → _≡_ {A = ℕ} (cond t 0 14) (cond (all-zero fill) 0 14)
+fill-looked t fill e = ap {B = ℕ} (λ (b : Bool). cond b 0 14) e
 
 -- an output that a number other than 0 leaves, and one that goes with 0
 pub number-keeps : (r : ℕ) (block out : List ℕ) → (r ≡ 0 → ⊥) → out ≡ cond (eqb r 0) block out

@@ -99,23 +99,21 @@ fn fill_number(
         spreads,
         places,
     );
-    if zeros(&room[..count]) {
-        return 0;
-    }
-    14
+    looked_at(&room[..count])
 }
 
-fn zeros(s: &[u8]) -> bool
-    ensures { λ r. ⌜ r ≡ all-zero (now (s .entry)) ⌝ }
+// 14 where one of these bytes is not zero, or 0.
+fn looked_at(fill: &[u8]) -> u32
+    ensures { λ r. ⌜ r ≡ cond (all-zero (now (fill .entry))) 0 14 ⌝ }
 {
-    let mut k = s.len();
+    let mut k = fill.len();
     while k > 0 {
         k -= 1;
-        if s[k] != 0 {
-            return false;
+        if fill[k] != 0 {
+            return 14;
         }
     }
-    true
+    0
 }
 
 fn shorter(a: usize, b: usize) -> usize

@@ -1,12 +1,13 @@
 -- `join::block::fill_number` meets its contract: the fill is written to a room of its own, and looked at there.
 use mathlib.Core.Path.{sym, ap, _∙_}
-use mathlib.Core.Bool.{true, false}
+use mathlib.Core.Bool.{cond}
+use mathlib.Core.List.{List}
 use Prim.Native.Nat.{ℕ, _+_, _-_, _*_}
 use native.Mathlib.Omega.{arith}
 use lib.ListN.{length, replicate}
 use Rattle.algebra.specs.Several.{listed}
+use Rattle.join.specs.Join.{all-zero}
 use Rattle.join.specs.Parts.{block-byte}
-use Rattle.join.proofs.Blocks.{fill-looked}
 use Rattle.join.proofs.Rooms.{lent, back, back-count, back-within}
 use borrow.Author.Needs.{needs}
 use Rattle.join.proofs.block.fill_number.Statement.{statement}
@@ -39,38 +40,26 @@ array-share-prefix-room c =
     let a = call .before .before .before .before .before .before .args in
     back-within (length (a .indexes .now) * a .size - a .length) (replicate 768 0) (omega arith) (call .write-part .last .0) (call .write-part .kept .0)
 
-slice-aggregate-zeros : tie.Need-slice-aggregate-zeros
-slice-aggregate-zeros c =
+slice-aggregate-looked-at : tie.Need-slice-aggregate-looked-at
+slice-aggregate-looked-at c =
     let call = c .before .before in
     let a = call .before .before .before .before .before .before .args in
     back-count (length (a .indexes .now) * a .size - a .length) (replicate 768 0) (omega arith) (call .write-part .last .0) (call .write-part .kept .0)
 
-zeros-requires : tie.Need-zeros-requires
-zeros-requires c κs = search needs
+looked-at-requires : tie.Need-looked-at-requires
+looked-at-requires c κs = search needs
 
 returns : tie.Need-returns
 returns c =
-    let call = c .before .before .before .before in
+    let call = c .before .before .before in
     let a = call .before .before .before .before .before .before .args in
     let n = length (a .indexes .now) * a .size - a .length in
-    fill-looked _ true _ _ (c .before .zeros .ensures)
+    c .looked-at .ensures
+    ∙ ap {B = ℕ} (λ (s : List ℕ). cond (all-zero s) 0 14)
     (back n (replicate 768 0) (omega arith) (call .write-part .last .0) (call .write-part .kept .0)
     ∙ call .write-part .ensures
     ∙ ap (λ (k : ℕ). listed k (λ j. block-byte (a .indexes .now) (a .places .now) (a .records .now) (a .stride) (a .size) (a .length + j)))
     (sym (lent n (replicate 768 0) (omega arith))))
-    (c .if1 .taken)
-
-returns-2 : tie.Need-returns-2
-returns-2 c =
-    let call = c .before .before .before .before in
-    let a = call .before .before .before .before .before .before .args in
-    let n = length (a .indexes .now) * a .size - a .length in
-    fill-looked _ false _ _ (c .before .zeros .ensures)
-    (back n (replicate 768 0) (omega arith) (call .write-part .last .0) (call .write-part .kept .0)
-    ∙ call .write-part .ensures
-    ∙ ap (λ (k : ℕ). listed k (λ j. block-byte (a .indexes .now) (a .places .now) (a .records .now) (a .stride) (a .size) (a .length + j)))
-    (sym (lent n (replicate 768 0) (omega arith))))
-    (c .if1 .left)
 
 pub fill-number-spec : {M : Type 1} → statement M
 fill-number-spec =
@@ -82,7 +71,6 @@ fill-number-spec =
     slice-aggregate-write-part
     write-part-requires
     array-share-prefix-room
-    slice-aggregate-zeros
-    zeros-requires
-    returns
-    returns-2)
+    slice-aggregate-looked-at
+    looked-at-requires
+    returns)
