@@ -28,37 +28,22 @@ fn refused(reason: Reason) -> Answer
     ensures { λ r. ⌜ r .value ≡ reason-answer reason .value ⌝ }
 {
     match reason {
-        Reason::CheckMark => Answer {
-            number: 5,
-            value: 0,
-        },
-        Reason::CheckShape => Answer {
-            number: 6,
-            value: 0,
-        },
-        Reason::OtherBlock => Answer {
-            number: 7,
-            value: 0,
-        },
-        Reason::FragmentShape => Answer {
-            number: 8,
-            value: 0,
-        },
+        Reason::CheckMark => only(5),
+        Reason::CheckShape => only(6),
+        Reason::OtherBlock => only(7),
+        Reason::FragmentShape => only(8),
         Reason::OtherNumber(found) => Answer {
             number: 9,
             value: found,
         },
-        Reason::NoSuchHead => Answer {
-            number: 10,
-            value: 0,
-        },
-        Reason::Hash => Answer {
-            number: 11,
-            value: 0,
-        },
-        Reason::Fingerprint => Answer {
-            number: 12,
-            value: 0,
-        },
+        Reason::NoSuchHead => only(10),
+        Reason::Hash => only(11),
+        Reason::Fingerprint => only(12),
     }
+}
+
+fn only(number: u32) -> Answer
+    ensures { λ r. ⌜ (r .number ≡ number) × (r .value ≡ 0) ⌝ }
+{
+    Answer { number, value: 0 }
 }
