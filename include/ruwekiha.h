@@ -47,8 +47,9 @@ enum {
 #define RWK_LARGEST_SEED 16777215
 
 /*
- * Cuts a block so that any m of its n fragments give it back. `fragments` has n x (18 + F) bytes and gets the n records in the order
- * of their indexes; `check` has 22 + 32n + 3m bytes and gets the check record. Numbers: 1, 2, 3, 4, or 0.
+ * Cuts a block, whose block number is `number`, so that any m of its n fragments give it back. `fragments` has n x (18 + F) bytes and
+ * gets the n records in the order of their indexes; `check` has 22 + 32n + 3m bytes and gets the check record. Numbers: 1, 2, 3, 4,
+ * or 0.
  */
 uint32_t rwk_cut(uint32_t m, uint32_t n, uint32_t seed, uint64_t number, const uint8_t *block, size_t block_len,
                  uint8_t *fragments, size_t fragments_len, uint8_t *check, size_t check_len);
