@@ -96,14 +96,14 @@ fn counts(draw: &mut Draw, claim: &mut Claim) {
     let before = claim.check.len();
     let (m, n) = (claim.check[17], claim.check[18]);
     while claim.check.len() == before {
-        claim.check[17] = draw.one_of(&[m, m.wrapping_add(1), m.wrapping_sub(1), draw_small(n)]);
-        claim.check[18] = draw.one_of(&[n, n.wrapping_add(1), n.wrapping_sub(1), draw_small(m)]);
+        claim.check[17] = draw.one_of(&[m, m.wrapping_add(1), m.wrapping_sub(1), half(n)]);
+        claim.check[18] = draw.one_of(&[n, n.wrapping_add(1), n.wrapping_sub(1), half(m)]);
         claim.fit();
     }
     claim.check.resize(before, 0);
 }
 
-fn draw_small(x: u8) -> u8 {
+fn half(x: u8) -> u8 {
     x / 2 + 1
 }
 

@@ -1,4 +1,15 @@
-//! The seeded generator.
+//! The seeded generator, and settings from the environment.
+
+/// A number that an environment variable gives.
+pub fn setting(name: &str) -> Option<u64> {
+    let value = std::env::var(name).ok()?;
+    let number = value.parse();
+    Some(number.unwrap_or_else(|_| panic!("{name} is no number: {value}")))
+}
+
+pub fn seed() -> u64 {
+    setting("RUWEKIHA_SEED").unwrap_or(1)
+}
 
 /// SplitMix64: small, and the same everywhere.
 pub struct Draw(u64);

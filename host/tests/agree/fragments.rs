@@ -155,12 +155,8 @@ fn number(draw: &mut Draw, _: &Second, o: &mut Offer) -> Option<u32> {
 
 fn index_over(draw: &mut Draw, _: &Second, o: &mut Offer) -> Option<u32> {
     let n = o.scene.n;
-    o.record[13] = draw.one_of(&[n, n + 1, draw_from(n), 255]) as u8;
+    o.record[13] = draw.one_of(&[n, n + 1, (n + 255) / 2, 255]) as u8;
     Some(10)
-}
-
-fn draw_from(n: usize) -> usize {
-    (n + 255) / 2
 }
 
 /// Accepted where the other body has the same bytes.

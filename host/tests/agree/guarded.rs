@@ -88,3 +88,35 @@ impl GuardedWord {
         value
     }
 }
+
+#[cfg(test)]
+mod tests {
+    use super::*;
+
+    #[test]
+    #[should_panic(expected = "a byte before a buffer was written")]
+    fn a_byte_before_is_seen() {
+        let mut lent = Guarded::new(&[1, 2, 3], 5);
+        allow(&lent.room);
+        lent.room[lent.start - 1] ^= 1;
+        lent.back();
+    }
+
+    #[test]
+    #[should_panic(expected = "a byte behind a buffer was written")]
+    fn a_byte_behind_is_seen() {
+        let mut lent = Guarded::new(&[1, 2, 3], 5);
+        allow(&lent.room);
+        lent.room[lent.end] ^= 1;
+        lent.back();
+    }
+
+    #[test]
+    #[should_panic(expected = "a byte beside a value was written")]
+    fn a_word_beside_is_seen() {
+        let mut word = GuardedWord::new();
+        word.guards().iter().for_each(|g| allow(g));
+        word.0[3] ^= 1;
+        word.back();
+    }
+}

@@ -227,13 +227,9 @@ fn many_over(draw: &mut Draw, join: &mut Join) -> Option<u32> {
 
 fn part_behind(draw: &mut Draw, join: &mut Join) -> Option<u32> {
     join.records.truncate(draw.below(join.scene.n + 1));
-    let part = draw.one_of(&[1, 17, 17 + join.scene.size, draw_part(join.scene.size)]);
+    let part = draw.one_of(&[1, 17, 17 + join.scene.size, join.scene.size / 2 + 1]);
     join.rest = draw.bytes(part);
     Some(4)
-}
-
-fn draw_part(size: usize) -> usize {
-    size / 2 + 1
 }
 
 fn part_missing(draw: &mut Draw, join: &mut Join) -> Option<u32> {

@@ -2,7 +2,7 @@
 //! absurd, short and long. The number, every value and every byte of each lent buffer are compared, and the guards around them.
 //!
 //! Settings, each an environment variable: RUWEKIHA_SEED; RUWEKIHA_CALLS, how many calls to compare at least; RUWEKIHA_CASE, to run
-//! one case of a seed again.
+//! one case of a seed again; RUWEKIHA_MEMCHECK, to fail where no memory checker looks on.
 
 mod calls;
 mod claims;
@@ -17,29 +17,25 @@ mod scene;
 mod tally;
 
 use calls::Caller;
-use draw::Draw;
+use draw::{setting, Draw};
 use ruwekiha::second::Second;
 use scene::Scene;
 use std::sync::atomic::{AtomicBool, AtomicU64, Ordering};
 use tally::Tally;
 
 /// What the gate compares; no fewer than 100,000 are asked for.
-const CALLS: u64 = 200_000;
-
-fn setting(name: &str) -> Option<u64> {
-    let value = std::env::var(name).ok()?;
-    Some(
-        value
-            .parse()
-            .unwrap_or_else(|_| panic!("{name} is no number: {value}")),
-    )
-}
+const CALLS: u64 = 500_000;
 
 #[test]
 fn both_sides_agree() {
-    let seed = setting("RUWEKIHA_SEED").unwrap_or(1);
+    let seed = draw::seed();
     let calls = setting("RUWEKIHA_CALLS").unwrap_or(CALLS);
     println!("seed {seed}, at least {calls} calls");
+    let looked_on = memcheck::running();
+    assert!(
+        looked_on || setting("RUWEKIHA_MEMCHECK").is_none(),
+        "no memory checker looks on"
+    );
     if let Some(case) = setting("RUWEKIHA_CASE") {
         run_case(&Second::new(), seed, case);
         return;

@@ -133,20 +133,20 @@ fn counts(draw: &mut Draw) -> (usize, usize) {
 }
 
 fn length(draw: &mut Draw, m: usize) -> usize {
-    match draw.below(400) {
-        0 => draw.one_of(&[65_536, 65_535, 65_534, draw_long(m)]),
+    match draw.below(100) {
+        0 => draw.one_of(&[65_536, 65_535, 65_534, longest_whole(m)]),
         1 => draw.below(65_537),
-        2..=10 => draw.below(5_000),
-        11..=60 => draw.below(700),
-        61..=80 => 0,
+        2..=6 => draw.below(9_000),
+        7..=24 => draw.below(1_200),
+        25..=29 => 0,
         // Around whole stripes, where F steps and the fill is empty or full.
-        81..=200 => (3 * m * draw.from_to(1, 3) + draw.below(3)).saturating_sub(1),
+        30..=59 => (3 * m * draw.from_to(1, 3) + draw.below(3)).saturating_sub(1),
         _ => draw.below(100),
     }
 }
 
 /// The longest block with no fill.
-fn draw_long(m: usize) -> usize {
+fn longest_whole(m: usize) -> usize {
     65_536 / (3 * m) * (3 * m)
 }
 
