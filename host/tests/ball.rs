@@ -156,7 +156,7 @@ fn input_in_parts() {
 fn many_inputs() {
     let second = Second::new();
     let seed = draw::seed();
-    println!("seed {seed}");
+    draw::say(format!("ball: seed {seed}"));
     let mut draw = draw::Draw::of_case(seed, 0);
     for (m, n) in (1..=64).flat_map(|n| (1..=n).map(move |m| (m, n))) {
         let length = if draw.once_in(4) {

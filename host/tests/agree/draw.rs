@@ -1,5 +1,7 @@
 //! The seeded generator, and settings from the environment.
 
+use std::io::Write;
+
 /// A number that an environment variable gives.
 pub fn setting(name: &str) -> Option<u64> {
     let value = std::env::var(name).ok()?;
@@ -7,8 +9,14 @@ pub fn setting(name: &str) -> Option<u64> {
     Some(number.unwrap_or_else(|_| panic!("{name} is no number: {value}")))
 }
 
+/// The seed of this run.
 pub fn seed() -> u64 {
     setting("RUWEKIHA_SEED").unwrap_or(1)
+}
+
+/// Prints a line past the harness, which keeps to itself what passing tests print.
+pub fn say(line: String) {
+    writeln!(std::io::stderr(), "{line}").expect("stderr is open");
 }
 
 /// SplitMix64: small, and the same everywhere.

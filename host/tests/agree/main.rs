@@ -17,7 +17,7 @@ mod scene;
 mod tally;
 
 use calls::Caller;
-use draw::{setting, Draw};
+use draw::{say, setting, Draw};
 use ruwekiha::second::Second;
 use scene::Scene;
 use std::sync::atomic::{AtomicBool, AtomicU64, Ordering};
@@ -30,7 +30,7 @@ const CALLS: u64 = 500_000;
 fn both_sides_agree() {
     let seed = draw::seed();
     let calls = setting("RUWEKIHA_CALLS").unwrap_or(CALLS);
-    println!("seed {seed}, at least {calls} calls");
+    say(format!("seed {seed}, at least {calls} calls"));
     let looked_on = memcheck::running();
     assert!(
         looked_on || setting("RUWEKIHA_MEMCHECK").is_none(),
@@ -41,8 +41,10 @@ fn both_sides_agree() {
         return;
     }
     let tally = run_cases(seed, calls);
-    println!("seed {seed}: {} calls compared, by number:", tally.calls());
-    tally.print();
+    let compared = tally.calls();
+    say(format!(
+        "seed {seed}: {compared} calls compared, by number:\n{tally}"
+    ));
     assert!(tally.calls() >= calls);
     tally.assert_covered(calls.div_ceil(2_000));
     for function in ["check", "open"] {

@@ -1,6 +1,7 @@
 //! How often each number of each function was seen, and each way of making an input.
 
 use std::collections::BTreeMap;
+use std::fmt;
 
 /// The numbers that document 01 and the header let each function give.
 pub const ALLOWED: [(&str, &[u32]); 8] = [
@@ -39,16 +40,6 @@ impl Tally {
         self.numbers.values().sum()
     }
 
-    pub fn print(&self) {
-        for (function, numbers) in ALLOWED {
-            let seen = numbers
-                .iter()
-                .map(|&n| format!("{n}: {}", self.count(function, n)));
-            println!("  {function:<12} {}", seen.collect::<Vec<_>>().join(", "));
-        }
-        println!("  {} ways of making an input", self.ways.len());
-    }
-
     fn count(&self, function: &'static str, number: u32) -> u64 {
         self.numbers.get(&(function, number)).copied().unwrap_or(0)
     }
@@ -80,5 +71,16 @@ impl Tally {
                 "{function}: never {way}"
             );
         }
+    }
+}
+
+impl fmt::Display for Tally {
+    fn fmt(&self, f: &mut fmt::Formatter) -> fmt::Result {
+        for (function, numbers) in ALLOWED {
+            let seen = |&n| format!("{n}: {}", self.count(function, n));
+            let seen: Vec<String> = numbers.iter().map(seen).collect();
+            writeln!(f, "  {function:<12} {}", seen.join(", "))?;
+        }
+        write!(f, "  {} ways of making an input", self.ways.len())
     }
 }
