@@ -1,5 +1,5 @@
-//! The functions of the archive: their C declarations, and over each the same with slices, which is safe. All that is unsafe in this
-//! crate stands here.
+//! The functions of the archive: their C declarations, and over each the same with slices, which is safe. All that is unsafe in
+//! the library stands here.
 
 /// As `include/ruwekiha.h` has them. Nothing checks one against the other but the tests.
 pub mod c {

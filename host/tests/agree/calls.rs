@@ -11,7 +11,6 @@ use ruwekiha::second::Second;
 pub struct Way(pub &'static str, pub Option<u32>);
 
 /// The number, the values beside it, and the final bytes of each lent buffer that may be written.
-#[derive(Debug, PartialEq)]
 pub struct Outcome {
     pub number: u32,
     pub values: Vec<u64>,
@@ -80,10 +79,9 @@ impl<'a> Caller<'a> {
                 "{function}, {name}: an input was written"
             );
         }
-        assert_eq!(
-            proved, second,
-            "{function}, {name}: proved left, second right"
-        );
+        if let Some(difference) = proved.difference(&second) {
+            panic!("{function}, {name}: {difference}");
+        }
         if let Some(number) = aim {
             assert_eq!(proved.number, number, "{function}, {name}: aimed at right");
         }
@@ -218,5 +216,20 @@ impl Outcome {
             values,
             buffers,
         }
+    }
+
+    /// In few words where what the second implementation gave differs from this.
+    fn difference(&self, second: &Outcome) -> Option<String> {
+        let (ours, theirs) = ((self.number, &self.values), (second.number, &second.values));
+        if ours != theirs {
+            return Some(format!("proved {ours:?}, second {theirs:?}"));
+        }
+        for (k, (a, b)) in self.buffers.iter().zip(&second.buffers).enumerate() {
+            if a != b {
+                let place = a.iter().zip(b).position(|(x, y)| x != y);
+                return Some(format!("buffer {k} of {} bytes from {place:?} on", a.len()));
+            }
+        }
+        None
     }
 }

@@ -58,7 +58,7 @@ fn version(draw: &mut Draw, claim: &mut Claim) {
 }
 
 fn under_head(draw: &mut Draw, claim: &mut Claim) {
-    claim.check.truncate(draw.from_to(5, 21));
+    claim.check.truncate(draw.between(5, 21));
 }
 
 fn m_zero(_: &mut Draw, claim: &mut Claim) {
@@ -71,7 +71,7 @@ fn m_over(draw: &mut Draw, claim: &mut Claim) {
     claim.check[17] = if draw.once_in(2) {
         n + 1
     } else {
-        draw.from_to(n + 1, 255)
+        draw.between(n + 1, 255)
     } as u8;
     claim.fit();
 }
@@ -80,7 +80,7 @@ fn n_over(draw: &mut Draw, claim: &mut Claim) {
     claim.check[18] = if draw.once_in(2) {
         65
     } else {
-        draw.from_to(65, 255)
+        draw.between(65, 255)
     } as u8;
     claim.fit();
 }
@@ -145,7 +145,7 @@ fn wanted(draw: &mut Draw, claim: &mut Claim) {
 
 /// Some bits anywhere.
 pub fn flip(draw: &mut Draw, bytes: &mut [u8]) {
-    for _ in 0..draw.from_to(1, 4) {
+    for _ in 0..draw.between(1, 4) {
         if !bytes.is_empty() {
             let place = draw.below(bytes.len());
             bytes[place] ^= 1 << draw.below(8);

@@ -125,12 +125,12 @@ pub fn card_size(draw: &mut Draw, caller: &mut Caller) {
 /// A body for the hash or the fingerprint: now and then one at the bound or over it.
 fn body(draw: &mut Draw, scene: &Scene) -> Vec<u8> {
     match draw.below(40) {
-        0 => vec![0xa7; draw.one_of(&[65_539, 65_540, 65_541, 70_000])],
-        1 if draw.once_in(10) => {
-            let length = draw.from_to(65_530, 65_538);
+        0..=1 => vec![0xa7; draw.one_of(&[65_539, 65_540, 65_541, 70_000])],
+        2 if draw.once_in(8) => {
+            let length = draw.between(65_530, 65_538);
             draw.bytes(length)
         }
-        2..=9 => scene.body(draw.below(scene.n)).to_vec(),
+        3..=9 => scene.body(draw.below(scene.n)).to_vec(),
         10..=12 => {
             let length = draw.below(2_000);
             draw.bytes(length)

@@ -43,7 +43,7 @@ impl Draw {
     }
 
     /// From a to b, both among them.
-    pub fn from_to(&mut self, a: usize, b: usize) -> usize {
+    pub fn between(&mut self, a: usize, b: usize) -> usize {
         a + self.below(b - a + 1)
     }
 
@@ -66,7 +66,7 @@ impl Draw {
 
     /// A byte that is not 0: what changes a byte that it is added to.
     pub fn change(&mut self) -> u8 {
-        self.from_to(1, 255) as u8
+        self.between(1, 255) as u8
     }
 
     /// The numbers below n in some order.

@@ -1,5 +1,5 @@
-//! Buffers between guards. Each has an allocation of its own; while it is lent, memcheck lets nobody touch the guards, and at the end
-//! they must hold what they held.
+//! Buffers between guards. Each has an allocation of its own; while it is lent, memcheck lets nobody touch the guards, and at the
+//! end they must hold what they held.
 
 use crate::memcheck::{allow, forbid};
 
@@ -118,5 +118,16 @@ mod tests {
         word.guards().iter().for_each(|g| allow(g));
         word.0[3] ^= 1;
         word.back();
+    }
+
+    /// What a memory checker must call an error: the command that runs these tests under one first sees that it does.
+    #[test]
+    #[ignore = "it reads a byte that it may not"]
+    fn reads_a_guard() {
+        let lent = Guarded::new(&[1, 2, 3], 5);
+        assert!(crate::memcheck::running(), "there is nothing to see it");
+        // SAFETY: the byte is a guard's, in the same allocation.
+        let behind = unsafe { lent.lent().as_ptr().add(3).read_volatile() };
+        assert_eq!(behind, mark(lent.end));
     }
 }

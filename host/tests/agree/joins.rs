@@ -87,7 +87,7 @@ pub fn filled(draw: &mut Draw, caller: &mut Caller, scene: &Scene) {
     block.resize(whole, 0);
     let zero = whole == length || draw.once_in(4);
     if !zero {
-        block[draw.from_to(length, whole - 1)] = draw.change();
+        block[draw.between(length, whole - 1)] = draw.change();
     }
     let mut other = scene.with_block(caller.second, block);
     other.check[13..17].copy_from_slice(&(length as u32).to_be_bytes());
@@ -154,9 +154,9 @@ fn refuse(draw: &mut Draw, n: usize, record: &mut [u8]) {
     match draw.below(5) {
         0 => record[draw.below(5)] ^= draw.change(),
         1 => record[5 + draw.below(8)] ^= draw.change(),
-        2 => record[13] = draw.from_to(n, 255) as u8,
+        2 => record[13] = draw.between(n, 255) as u8,
         3 => record[14 + draw.below(4)] ^= draw.change(),
-        _ if record.len() > 18 => record[draw.from_to(18, record.len() - 1)] ^= draw.change(),
+        _ if record.len() > 18 => record[draw.between(18, record.len() - 1)] ^= draw.change(),
         _ => record.fill(0),
     }
 }
@@ -170,14 +170,14 @@ fn refuse_some(draw: &mut Draw, join: &mut Join, count: usize) {
 }
 
 fn refused_among(draw: &mut Draw, join: &mut Join) -> Option<u32> {
-    let count = draw.from_to(0, join.scene.n - join.scene.m);
+    let count = draw.between(0, join.scene.n - join.scene.m);
     refuse_some(draw, join, count);
     Some(0)
 }
 
 fn too_many_refused(draw: &mut Draw, join: &mut Join) -> Option<u32> {
     let (m, n) = (join.scene.m, join.scene.n);
-    let count = draw.from_to(n - m + 1, n);
+    let count = draw.between(n - m + 1, n);
     refuse_some(draw, join, count);
     Some(13)
 }
@@ -201,7 +201,7 @@ fn too_few(draw: &mut Draw, join: &mut Join) -> Option<u32> {
 
 fn one_again(draw: &mut Draw, join: &mut Join) -> Option<u32> {
     let index = draw.below(join.scene.n);
-    let times = draw.from_to(1, join.scene.n);
+    let times = draw.between(1, join.scene.n);
     keep(join, &vec![index; times]);
     Some(if join.scene.m == 1 { 0 } else { 13 })
 }
@@ -235,7 +235,7 @@ fn part_behind(draw: &mut Draw, join: &mut Join) -> Option<u32> {
 fn part_missing(draw: &mut Draw, join: &mut Join) -> Option<u32> {
     let size = join.scene.size;
     let end = join.records.last_mut().unwrap();
-    end.truncate(draw.from_to(1, 17 + size));
+    end.truncate(draw.between(1, 17 + size));
     Some(4)
 }
 
@@ -267,7 +267,7 @@ fn other_length(draw: &mut Draw, join: &mut Join) -> Option<u32> {
     if size == 0 {
         return Some(0);
     }
-    let length = draw.from_to(m * size - 3 * m + 1, m * size).min(65_536);
+    let length = draw.between(m * size - 3 * m + 1, m * size).min(65_536);
     let cut = join.scene.block.get(length..).unwrap_or(&[]);
     let number = if cut.iter().all(|&b| b == 0) { 0 } else { 14 };
     join.claim.check[13..17].copy_from_slice(&(length as u32).to_be_bytes());
@@ -278,7 +278,7 @@ fn other_length(draw: &mut Draw, join: &mut Join) -> Option<u32> {
 
 fn bits(draw: &mut Draw, join: &mut Join) -> Option<u32> {
     all(draw, join);
-    for _ in 0..draw.from_to(1, 3) {
+    for _ in 0..draw.between(1, 3) {
         let place = draw.below(join.scene.n);
         flip(draw, &mut join.records[place]);
     }

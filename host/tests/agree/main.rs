@@ -1,5 +1,5 @@
-//! The proved functions held against the second implementation, call by call, on inputs from a seeded generator: honest, damaged and
-//! absurd, short and long. The number, every value and every byte of each lent buffer are compared, and the guards around them.
+//! The proved functions held against the second implementation, call by call, on inputs from a seeded generator: honest, damaged
+//! and absurd, short and long. The number, every value and every byte of each lent buffer are compared, and the guards looked at.
 //!
 //! Settings, each an environment variable: RUWEKIHA_SEED; RUWEKIHA_CALLS, how many calls to compare at least; RUWEKIHA_CASE, to run
 //! one case of a seed again; RUWEKIHA_MEMCHECK, to fail where no memory checker looks on.
@@ -8,11 +8,12 @@ mod calls;
 mod claims;
 mod cuts;
 mod draw;
-mod edges;
+mod ends;
 mod fragments;
 mod guarded;
 mod joins;
 mod memcheck;
+mod nulls;
 mod scene;
 mod tally;
 

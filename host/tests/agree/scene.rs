@@ -119,15 +119,15 @@ fn shape(draw: &mut Draw) -> (usize, usize, usize) {
 fn counts(draw: &mut Draw) -> (usize, usize) {
     let n = match draw.below(20) {
         0 => draw.one_of(&[1, 2, 63, 64]),
-        1 => draw.from_to(1, 64),
-        2..=3 => draw.from_to(1, 24),
+        1 => draw.between(1, 64),
+        2..=3 => draw.between(1, 24),
         4..=6 => return (8, 12),
-        _ => draw.from_to(1, 7),
+        _ => draw.between(1, 7),
     };
     let m = match draw.below(6) {
         0 => 1,
         1 => n,
-        _ => draw.from_to(1, n),
+        _ => draw.between(1, n),
     };
     (m, n)
 }
@@ -140,7 +140,7 @@ fn length(draw: &mut Draw, m: usize) -> usize {
         7..=24 => draw.below(1_200),
         25..=29 => 0,
         // Around whole stripes, where F steps and the fill is empty or full.
-        30..=59 => (3 * m * draw.from_to(1, 3) + draw.below(3)).saturating_sub(1),
+        30..=59 => (3 * m * draw.between(1, 3) + draw.below(3)).saturating_sub(1),
         _ => draw.below(100),
     }
 }
