@@ -4,6 +4,16 @@
 //! The functions are the proved ones of the archive that `rt staticlib abi` writes. No call asks anything of its caller: whatever
 //! the bytes and numbers are, an answer comes back, and on a refusal each lent buffer holds what it held. [`raw`] gives the same
 //! answers as document 01's plain numbers; [`second`] is another implementation, to hold them against.
+//!
+//! ```
+//! let (block, number, seed) = ([1, 2, 3, 4, 5, 6], 7, 256);
+//! let size = ruwekiha::record_length(block.len(), 2);
+//! let (mut records, mut check) = (vec![0; 4 * size], vec![0; ruwekiha::check_length(2, 4)]);
+//! ruwekiha::cut(2, 4, seed, number, &block, &mut records, &mut check).unwrap();
+//! let mut joined = [0; 6];
+//! ruwekiha::join(number, &check, &records[2 * size..], &mut joined).unwrap();
+//! assert_eq!(joined, block);
+//! ```
 
 mod answers;
 pub mod raw;

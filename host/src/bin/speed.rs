@@ -199,25 +199,37 @@ fn median(mut values: Vec<f64>) -> f64 {
 fn beside_openssl() {
     let block = Block::cut(8, 12, 65_536);
     let size = block.stride - 18;
+    let hash = || rate(8 * size, 0.5, &|| block.our_hash());
+    let cut = || rate(65_536, 0.5, &|| block.our_cut());
     let (mut theirs, mut hashes, mut cuts) = (vec![], vec![], vec![]);
-    for _ in 0..5 {
+    for _ in 0..7 {
+        // Ours before and after theirs, which takes a second: the machine may be another meanwhile.
+        let (hash_before, cut_before) = (hash(), cut());
         let openssl = openssl(size);
-        hashes.push(rate(8 * size, 1.0, &|| block.our_hash()) / openssl);
-        cuts.push(rate(65_536, 1.0, &|| block.our_cut()) / openssl);
+        cuts.push((cut_before + cut()) / 2.0 / openssl);
+        hashes.push((hash_before + hash()) / 2.0 / openssl);
         theirs.push(openssl);
     }
+    println!("\nOpenSSL's SHA-256 without SHA instructions on bodies of {size} bytes, and ratios to it in the same run,");
+    println!("each a median with the lowest and the highest of seven:\n");
+    println!("- OpenSSL: {} MB/s", spread(theirs, 1));
     println!(
-        "\nOpenSSL's SHA-256 without SHA instructions, bodies of {size} bytes: {:.1} MB/s",
-        median(theirs)
+        "- the proved hash of the same bodies: {}",
+        spread(hashes, 2)
     );
     println!(
-        "the proved hash on the same bodies, as a ratio to it: {:.2}",
-        median(hashes)
+        "- the cut of 65,536 bytes at 8 of 12, in MB/s of block: {}",
+        spread(cuts, 2)
     );
-    println!(
-        "the cut of 65,536 bytes at 8 of 12, as a ratio to it: {:.2}",
-        median(cuts)
-    );
+}
+
+fn spread(values: Vec<f64>, digits: usize) -> String {
+    let least = values.iter().copied().fold(f64::INFINITY, f64::min);
+    let most = values.iter().copied().fold(0.0, f64::max);
+    format!(
+        "{:.digits$} ({least:.digits$} to {most:.digits$})",
+        median(values)
+    )
 }
 
 /// What `openssl speed` says, whose last line ends in thousands of bytes a second, as 393216.00k.

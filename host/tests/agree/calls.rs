@@ -58,7 +58,7 @@ impl<'a> Caller<'a> {
 
     /// A buffer to be written, with bytes in it that show whether it was.
     fn room(&mut self, length: usize) -> Vec<u8> {
-        let start = self.draw.next() as usize;
+        let start = self.draw.below(1 << 32);
         (start..start + length)
             .map(|k| (k as u8).wrapping_mul(41) ^ (k >> 8) as u8)
             .collect()
