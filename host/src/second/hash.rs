@@ -1,5 +1,5 @@
-//! SHA-256 with a schedule of sixteen words in a ring, the functions by other identities than the standard's, and the constants
-//! computed from the primes' roots.
+//! SHA-256 with a schedule of sixteen words in a ring, the functions by other identities than the standard's (its rotations are
+//! made one out of the other), and the constants computed from the primes' roots.
 
 fn is_prime(n: u64) -> bool {
     n >= 2 && (2..n).take_while(|d| d * d <= n).all(|d| n % d != 0)
@@ -20,6 +20,42 @@ fn root_fraction(n: u64, k: u32) -> u32 {
     r as u32
 }
 
+/// x, and x rotated further by each count: 2, 13 and 22 are 2, 11 more, and 9 more.
+fn rotations(x: u32, [first, second, third]: [u32; 3]) -> u32 {
+    ((x.rotate_right(third) ^ x).rotate_right(second) ^ x).rotate_right(first)
+}
+
+/// Word t of the schedule, over the word of the ring that is 16 old.
+fn next_word(ring: &[u32; 16], t: usize) -> u32 {
+    let back = |k: usize| ring[(t + 16 - k) % 16];
+    let (x, y) = (back(15), back(2));
+    let s0 = (x ^ x.rotate_right(11)).rotate_right(7) ^ (x >> 3);
+    let s1 = (y ^ y.rotate_right(2)).rotate_right(17) ^ (y >> 10);
+    let sum = back(16).wrapping_add(s0);
+    sum.wrapping_add(back(7)).wrapping_add(s1)
+}
+
+/// One turn, with the sum of its constant and its word.
+fn turn([a, b, c, d, e, f, g, h]: [u32; 8], given: u32) -> [u32; 8] {
+    let choose = g ^ (e & (f ^ g));
+    let most = (a & b) | (c & (a | b));
+    let first = h
+        .wrapping_add(rotations(e, [6, 5, 14]))
+        .wrapping_add(choose)
+        .wrapping_add(given);
+    let second = rotations(a, [2, 11, 9]).wrapping_add(most);
+    [
+        first.wrapping_add(second),
+        a,
+        b,
+        c,
+        d.wrapping_add(first),
+        e,
+        f,
+        g,
+    ]
+}
+
 pub struct Sha256 {
     start: [u32; 8],
     k: [u32; 64],
@@ -35,34 +71,16 @@ impl Sha256 {
     }
 
     fn block(&self, state: &mut [u32; 8], block: &[u8]) {
-        let mut ring: [u32; 16] = std::array::from_fn(|i| {
-            u32::from_be_bytes(block[4 * i..4 * i + 4].try_into().unwrap())
-        });
-        let [mut a, mut b, mut c, mut d, mut e, mut f, mut g, mut h] = *state;
+        let word = |i: usize| u32::from_be_bytes(block[4 * i..4 * i + 4].try_into().unwrap());
+        let mut ring: [u32; 16] = std::array::from_fn(word);
+        let mut v = *state;
         for t in 0..64 {
-            let at = t % 16;
             if t >= 16 {
-                let (w1, w14) = (ring[(t + 1) % 16], ring[(t + 14) % 16]);
-                let s0 = w1.rotate_right(7) ^ w1.rotate_right(18) ^ (w1 >> 3);
-                let s1 = w14.rotate_right(17) ^ w14.rotate_right(19) ^ (w14 >> 10);
-                ring[at] = ring[at]
-                    .wrapping_add(s0)
-                    .wrapping_add(ring[(t + 9) % 16])
-                    .wrapping_add(s1);
+                ring[t % 16] = next_word(&ring, t);
             }
-            let big1 = e.rotate_left(26) ^ e.rotate_left(21) ^ e.rotate_left(7);
-            let choose = g ^ (e & (f ^ g));
-            let t1 = h
-                .wrapping_add(big1)
-                .wrapping_add(choose)
-                .wrapping_add(self.k[t])
-                .wrapping_add(ring[at]);
-            let big0 = a.rotate_left(30) ^ a.rotate_left(19) ^ a.rotate_left(10);
-            let most = (a & b) | (c & (a | b));
-            (h, g, f, e) = (g, f, e, d.wrapping_add(t1));
-            (d, c, b, a) = (c, b, a, t1.wrapping_add(big0).wrapping_add(most));
+            v = turn(v, self.k[t].wrapping_add(ring[t % 16]));
         }
-        for (s, v) in state.iter_mut().zip([a, b, c, d, e, f, g, h]) {
+        for (s, v) in state.iter_mut().zip(v) {
             *s = s.wrapping_add(v);
         }
     }
