@@ -1,0 +1,34 @@
+-- `lines::add_refusal` meets its contract: the definition's fields, in its order.
+use Rattle.tell.specs.Lines.{line, refusal-line}
+use borrow.Author.Needs.{needs}
+use Rattle.tell.proofs.lines.add_refusal.Statement.{statement}
+use Rattle.tell.proofs.lines.add_refusal.Tie as tie
+use Rattle.tell.proofs.lines.add_refusal.Reads as reads
+use Rattle.tell.proofs.lines.add_refusal.Lts as lts
+use Rattle.tell.proofs.text.add_line.Reads as add-line-reads
+
+slice-aggregate-add-line : tie.Need-slice-aggregate-add-line
+slice-aggregate-add-line c = search needs
+
+slice-aggregate-add-line-2 : tie.Need-slice-aggregate-add-line-2
+slice-aggregate-add-line-2 c = search needs
+
+add-line-requires : tie.Need-add-line-requires
+add-line-requires c κs = search needs
+
+same-length : tie.Need-same-length
+same-length c = search needs
+
+returns : tie.Need-returns
+unfolding refusal-line line
+returns c = search needs
+
+pub add-refusal-spec : {M : Type 1} → statement M
+add-refusal-spec =
+    tie.close
+    (tie.spec
+    slice-aggregate-add-line
+    slice-aggregate-add-line-2
+    add-line-requires
+    same-length
+    returns)
