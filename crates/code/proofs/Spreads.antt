@@ -6,26 +6,15 @@ use mathlib.Core.List.{List, [], _∷_, map}
 use Prim.Native.Nat.{ℕ}
 use Rattle.algebra.specs.Carrier.{Carrier, Laws, Inverts}
 use Rattle.algebra.specs.Several.{All, In, Distinct}
-use Rattle.algebra.specs.Polynomial.{weight}
+use Rattle.algebra.specs.Polynomial.{spread-but, weight}
 use Rattle.algebra.proofs.Ring.{ring, same-of-sum, not-same, same-not, unit-product}
 use Rattle.algebra.proofs.Several.{all-at, all-both}
 use Rattle.algebra.proofs.Carried.{Carries}
-use Rattle.algebra.proofs.Lagrange.{factor-same, factor-other}
+use Rattle.algebra.proofs.Lagrange.{factor-same, factor-other, but-same, but-other}
 use Rattle.field.specs.Byte as plain
 use Rattle.field.proofs.Byte.{field, laws, number, byte, number-byte, inverse, times-inverse, number-carries}
-use Rattle.code.specs.Weights.{spread-but, spread}
+use Rattle.code.specs.Weights.{spread}
 use Rattle.code.proofs.Plain.{Small, there-and-back, other-bytes, different, in-map, weight-back}
-
--- the two cases of a point: it is the one left out, or another
-module _ {A : Type 0} (K : Carrier A) where
-  pub but-same : (q : A) (qs : List A) (p t : A) → K .same p q ≡ true → spread-but K (q ∷ qs) p t ≡ spread-but K qs p t
-  unfolding spread-but
-  but-same q qs p t e = rw (e, spread-but)
-
-  pub but-other : (q : A) (qs : List A) (p t : A) → K .same p q ≡ false
-      → spread-but K (q ∷ qs) p t ≡ K .times (K .plus t q) (spread-but K qs p t)
-  unfolding spread-but
-  but-other q qs p t e = rw (e, spread-but)
 
 module _ {A B : Type 0} (K : Carrier A) (J : Carrier B) (h : A → B) (H : Carries K J h) where
   but-carried : (ps : List A) (p t : A) → h (spread-but K ps p t) ≡ spread-but J (map h ps) (h p) (h t)

@@ -23,26 +23,13 @@ pub fn each_spread(points: &[u8], out: &mut [u8])
 pub fn each_share(points: &[u8], spreads: &[u8], t: u8, out: &mut [u8])
     ensures { λ r. ⌜ now (out .exit) ≡ shares.overlaid (shares.shares (now (points .entry)) (now (spreads .entry)) t) (now (out .entry)) ⌝ }
 {
-    let whole = nodal(points, t);
+    let whole = field::nodal(points, t);
     let end = shorter(shorter(points.len(), spreads.len()), out.len());
     let mut k = 0;
     while k < end {
         out[k] = share(whole, points[k], spreads[k], t);
         k += 1;
     }
-}
-
-// The product of t + q over all the points q.
-fn nodal(points: &[u8], t: u8) -> u8
-    ensures { λ r. ⌜ r ≡ shares.nodal bytes (now (points .entry)) t ⌝ }
-{
-    let mut product = 1;
-    let mut k = points.len();
-    while k > 0 {
-        k -= 1;
-        product = field::times(field::plus(t, points[k]), product);
-    }
-    product
 }
 
 fn share(whole: u8, p: u8, spread: u8, t: u8) -> u8
