@@ -9,6 +9,7 @@ ghost use Rattle.field.specs.Byte.{bytes, inverse};
 ghost use Rattle.code.specs.Cutting as cutting;
 ghost use Rattle.code.specs.Weights as weights;
 ghost use Rattle.code.specs.Adding as adding;
+pub use weights::coefficients;
 pub use weights::each_share;
 pub use weights::each_spread;
 

@@ -1,9 +1,12 @@
 // The weights of all the points at once: a spread for each point is made once, and then each weight is a quotient.
+use crate::points;
 use crate::shorter;
 use crate::spread;
+use crate::wide;
 ghost use mathlib.Core.Path.{_≡_};
 ghost use mathlib.Core.List.{map};
 ghost use Rattle.field.specs.Byte.{bytes, inverse};
+ghost use Rattle.code.specs.Cutting as cutting;
 ghost use Rattle.code.specs.Weights as weights;
 ghost use Rattle.code.specs.Shares as shares;
 
@@ -30,6 +33,17 @@ pub fn each_share(points: &[u8], spreads: &[u8], t: u8, out: &mut [u8])
         out[k] = share(whole, points[k], spreads[k], t);
         k += 1;
     }
+}
+
+// How much each of the first m bodies counts in body i.
+pub fn coefficients(m: u8, i: u8, out: &mut [u8])
+    ensures { λ r. ⌜ now (out .exit) ≡ shares.overlaid (map (cutting.coefficient-of m i) (cutting.points m)) (now (out .entry)) ⌝ }
+{
+    let all = points();
+    let count = wide(m);
+    let mut room = [0u8; 255];
+    each_spread(&all[..count], &mut room[..count]);
+    each_share(&all[..count], &room[..count], i, out);
 }
 
 fn share(whole: u8, p: u8, spread: u8, t: u8) -> u8
