@@ -25,6 +25,9 @@ pub spread-all : (points room part : List ℕ) → length room ≡ length points
     → part ≡ map (spread bytes points) points
 spread-all points room part long e = e ∙ over-all _ room (length-map points (spread bytes points) ∙ sym long)
 
+pub coefficients-length : (m i : ℕ) → length (map (coefficient-of m i) (points m)) ≡ m
+coefficients-length m i = length-map (points m) (coefficient-of m i) ∙ points-length m
+
 module _ (m : ℕ) (hm : m ≤ 256) (i : ℕ) (hi : Small i) where
   -- with the spreads of the points at hand
   pub shares-coefficients : (ps spreads : List ℕ) → ps ≡ points m → spreads ≡ map (spread bytes ps) ps
@@ -34,3 +37,10 @@ module _ (m : ℕ) (hm : m ≤ 256) (i : ℕ) (hi : Small i) where
       ∙ shares-weights (points m) (points-small m hm) (points-distinct m) i hi
       ∙ sym (map-same _ _ (points m)
       (all-of _ (points m) (λ j k. coefficient-closed m hm i hi j (all-at _ (points m) (points-below m) j k))))
+
+  -- and room for all of them
+  pub coefficients-all : (ps spreads room part : List ℕ) → ps ≡ points m → spreads ≡ map (spread bytes ps) ps → length room ≡ m
+      → part ≡ overlaid (shares ps spreads i) room → part ≡ map (coefficient-of m i) (points m)
+  coefficients-all ps spreads room part ep es long e =
+      e ∙ ap (λ (l : List ℕ). overlaid l room) (shares-coefficients ps spreads ep es)
+      ∙ over-all _ room (coefficients-length m i ∙ sym long)

@@ -6,7 +6,7 @@ use Prim.Native.Nat.{ℕ, zero, suc, _+_, _-_, _*_, _<_, _≤_, suc-le-suc}
 use native.Mathlib.Nat.{not-suc-le-zero, le-of-suc-le-suc, suc-inj, suc-ne-zero, zero-lt-suc}
 use native.Mathlib.Decide.{decLt}
 use native.Mathlib.Omega.{arith}
-use lib.ListN.{length, getD, drop, length-drop, length-map, drop-of-length-le, List·getD-eq-default}
+use lib.ListN.{length, getD, drop, length-drop, drop-of-length-le, List·getD-eq-default}
 use lib.Seq.{getD-drop}
 use Rattle.algebra.specs.Several.{listed}
 use Rattle.algebra.specs.Combination.{combined}
@@ -19,7 +19,8 @@ use Rattle.column.specs.declared.Column.{Column}
 use Rattle.column.specs.Column.{zero as none, plus, scaled, column-space}
 use Rattle.code.specs.Cutting.{points, coefficient-of}
 use Rattle.code.specs.Shares.{overlaid}
-use Rattle.code.proofs.Bodies.{points-length, coefficient-one, coefficient-none}
+use Rattle.code.proofs.AtOnce.{coefficients-length}
+use Rattle.code.proofs.Bodies.{coefficient-one, coefficient-none}
 use Rattle.code.proofs.Overlays.{over-all}
 use Rattle.fingerprint.specs.Fingerprint.{columns-of, called-for}
 use Rattle.fingerprint.proofs.Steps.{column-at, next-column, no-column}
@@ -136,16 +137,8 @@ module _ (l : List ℕ) (small : (q : ℕ) → getD l q 0 < 256) where
       (λ j k ne. coefficient-none m hm i h j (omega arith) ne) (columns-of l) (print-by-one i))
 
 -- and of any other the combination by its coefficients, where there was room for all of them
-module _ (m i : ℕ) where
-  own : List ℕ
-  own = map (coefficient-of m i) (points m)
-
-  own-length : length own ≡ m
-  unfolding own
-  own-length = length-map (points m) (coefficient-of m i) ∙ points-length m
-
-  pub called-all : (part room : List ℕ) (vs : List Column) (r : Column) → part ≡ overlaid (map (coefficient-of m i) (points m)) room → length room ≡ m
-      → r ≡ combined column-space part vs → r ≡ called-for m i vs
-  unfolding called-for own
-  called-all part room vs r ep long er =
-      er ∙ ap (λ (cs : List ℕ). combined column-space cs vs) (ep ∙ over-all own room (own-length ∙ sym long))
+pub called-all : (m i : ℕ) (part room : List ℕ) (vs : List Column) (r : Column) → part ≡ overlaid (map (coefficient-of m i) (points m)) room → length room ≡ m
+    → r ≡ combined column-space part vs → r ≡ called-for m i vs
+unfolding called-for
+called-all m i part room vs r ep long er =
+    er ∙ ap (λ (cs : List ℕ). combined column-space cs vs) (ep ∙ over-all _ room (coefficients-length m i ∙ sym long))
