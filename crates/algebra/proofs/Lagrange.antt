@@ -8,7 +8,7 @@ use native.Mathlib.Nat.{le-of-eq, le-trans, le-refl, le-step}
 use lib.ListN.{length, length-map}
 use Rattle.algebra.specs.Carrier.{Carrier, Laws, Inverts}
 use Rattle.algebra.specs.Several.{All, In, Distinct}
-use Rattle.algebra.specs.Polynomial.{value, raised, interpolate, only, coefficient, factor, weight}
+use Rattle.algebra.specs.Polynomial.{value, raised, interpolate, only, coefficient, spread-but, factor, weight}
 use Rattle.algebra.specs.Combination.{combined, itself}
 use Rattle.algebra.proofs.Ring.{ring, same-of-sum, not-same, same-not, decided, none-product, product-none, product-comm, unit-product, none-sum}
 use Rattle.algebra.proofs.Several.{all-at, all-of, all-both}
@@ -31,6 +31,17 @@ module _ {A : Type 0} (K : Carrier A) (inverse : A → A) where
       → factor K inverse p t q ≡ K .times (K .plus t q) (inverse (K .plus p q))
   unfolding factor
   factor-other p t q e = rw (e, factor)
+
+-- the two cases of a point in a product over points: it is the one left out, or another
+module _ {A : Type 0} (K : Carrier A) where
+  pub but-same : (q : A) (qs : List A) (p t : A) → K .same p q ≡ true → spread-but K (q ∷ qs) p t ≡ spread-but K qs p t
+  unfolding spread-but
+  but-same q qs p t e = rw (e, spread-but)
+
+  pub but-other : (q : A) (qs : List A) (p t : A) → K .same p q ≡ false
+      → spread-but K (q ∷ qs) p t ≡ K .times (K .plus t q) (spread-but K qs p t)
+  unfolding spread-but
+  but-other q qs p t e = rw (e, spread-but)
 
 module _ {A : Type 0} (K : Carrier A) (L : Laws K) where
   open Carrier K using (none, unit, plus as _⊕_, times as _⊗_, same)

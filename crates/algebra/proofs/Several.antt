@@ -1,10 +1,12 @@
--- Laws of `listed`, `All`, `In` and `Distinct`.
+-- Laws of `listed`, `All`, `In` and `Distinct`, and a list walked from the last entry to the first.
 use mathlib.Core.Path.{_≡_, refl, sym, ap, ap₂, subst, _∙_}
 use mathlib.Core.Logic.{_≢_, _⊎_, inl, inr}
 use mathlib.Core.List.{List, [], _∷_, _++_, map, append-assoc, append-nil}
-use Prim.Native.Nat.{ℕ, zero, suc, _+_, _*_, _≤_, _<_, zero-le, suc-le-suc}
+use Prim.Native.Nat.{ℕ, zero, suc, _+_, _-_, _*_, _≤_, _<_, zero-le, suc-le-suc}
 use native.Mathlib.Nat.{le-trans, le-of-eq, le-of-suc-le-suc, not-suc-le-zero, zero-lt-suc, suc-ne-zero, suc-inj, zero-mul, suc-mul, add-comm}
-use lib.ListN.{length, getD, take, length-append}
+use native.Mathlib.Omega.{arith}
+use lib.ListN.{length, getD, take, drop, length-append}
+use lib.Seq.{drop-cons}
 use Rattle.algebra.specs.Several.{listed, end-to-end, All, In, Distinct}
 
 -- what all entries have, each has
@@ -111,6 +113,12 @@ end-to-end-length zero k f h = sym (zero-mul k)
 end-to-end-length (suc n) k f h =
     length-append (f zero) _ ∙ ap₂ _+_ (h zero (zero-lt-suc n)) (end-to-end-length n k (λ i. f (suc i)) (λ i l. h (suc i) (suc-le-suc l)))
     ∙ add-comm k (n * k) ∙ sym (suc-mul n k)
+
+-- what is dropped has one entry more at the front
+pub dropped : {A : Type 0} (l : List A) (k : ℕ) (d : A) → 0 < k → k ≤ length l → drop (k - 1) l ≡ getD l (k - 1) d ∷ drop k l
+dropped l k d some within =
+    let next : suc (k - 1) ≡ k = omega arith in
+    drop-cons l (k - 1) d (omega arith) ∙ ap (λ (n : ℕ). getD l (k - 1) d ∷ drop n l) next
 
 -- one entry more at the end: what all have, what is among them, and that they are different
 pub all-more : {A : Type 0} (P : A → Type 0) (l : List A) (a : A) → All P l → P a → All P (l ++ (a ∷ []))

@@ -22,6 +22,16 @@ module _ {A : Type 0} (K : Carrier A) where
   unfoldable pub only : A → A → A
   only q p = elim (same q p) [ true ↦ unit | false ↦ none ]
 
+  -- the product of t - q over the points q: zero exactly at the points
+  unfoldable pub nodal : List A → A → A
+  nodal [] t = unit
+  nodal (q ∷ qs) t = (t ⊕ q) ⊗ nodal qs t
+
+  -- the same over the points q that are not p
+  unfoldable pub spread-but : List A → A → A → A
+  spread-but [] p t = unit
+  spread-but (q ∷ qs) p t = elim (same p q) [ true ↦ spread-but qs p t | false ↦ (t ⊕ q) ⊗ spread-but qs p t ]
+
   module _ (inverse : A → A) where
     -- how steeply the values z at the points q rise from y at p
     unfoldable pub slopes : A → A → List A → List A → List A

@@ -1,16 +1,14 @@
--- Values written over a list from the front, and the product over all the points from the last to the first: the loops of `weights`.
+-- Values written over a list from the front: the loops of `weights`.
 use mathlib.Core.Path.{_≡_, refl, sym, ap, ap₂, _∙_}
 use mathlib.Core.List.{List, _++_, append-nil}
-use Prim.Native.Nat.{ℕ, _+_, _-_, _<_, _≤_, min}
+use Prim.Native.Nat.{ℕ, _+_, _<_, min}
 use native.Mathlib.Nat.{zero-add}
 use native.Mathlib.Numerals.{add-one}
 use native.Mathlib.Decide.{decLe}
 use native.Mathlib.Omega.{arith}
 use lib.ListN.{length, getD, take, drop, set, length-set, drop-of-length-le}
-use lib.Seq.{drop-length, take-all, paste, paste-zero, paste-suc}
-use Rattle.field.specs.Byte.{bytes, plus, times}
-use Rattle.code.specs.Shares.{nodal, overlaid}
-use Rattle.code.proofs.Walks.{dropped}
+use lib.Seq.{take-all, paste, paste-zero, paste-suc}
+use Rattle.code.specs.Shares.{overlaid}
 
 -- the first k values have been written
 pub record Overlaying (values out₀ : List ℕ) (k : ℕ) (out : List ℕ) : Type 0 where
@@ -48,17 +46,3 @@ pub over-all : (values out : List ℕ) → length values ≡ length out → over
 unfolding overlaid
 over-all values out e =
     ap₂ _++_ (take-all (length out) values (omega arith)) (drop-of-length-le out {i = length values} (omega arith)) ∙ append-nil values
-
--- the product over no points, over one more, and over all
-pub none-nodal : (ps : List ℕ) (t : ℕ) → 1 ≡ nodal bytes (drop (length ps) ps) t
-unfolding nodal
-none-nodal ps t = sym (ap (λ (l : List ℕ). nodal bytes l t) (drop-length ps))
-
-pub one-nodal : (ps : List ℕ) (k t r d s : ℕ) → 0 < k → k ≤ length ps → r ≡ nodal bytes (drop k ps) t → d ≡ plus t (getD ps (k - 1) 0) → s ≡ times d r
-    → s ≡ nodal bytes (drop (k - 1) ps) t
-unfolding nodal
-one-nodal ps k t r d s some within done ed es =
-    es ∙ ap₂ times ed done ∙ sym (ap (λ (l : List ℕ). nodal bytes l t) (dropped ps k 0 some within))
-
-pub all-nodal : (ps : List ℕ) (k t r : ℕ) → k ≤ 0 → r ≡ nodal bytes (drop k ps) t → r ≡ nodal bytes ps t
-all-nodal ps k t r h e = e ∙ ap (λ (n : ℕ). nodal bytes (drop n ps) t) (let z : k ≡ 0 = omega arith in z)

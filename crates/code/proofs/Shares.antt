@@ -11,16 +11,17 @@ use lib.Seq.{ext-getD}
 use borrow.Author.Tests.{eq-eqb, ne-eqb}
 use Rattle.algebra.specs.Carrier.{Carrier, Laws, Inverts}
 use Rattle.algebra.specs.Several.{listed, All, In, Distinct}
-use Rattle.algebra.specs.Polynomial.{weight}
+use Rattle.algebra.specs.Polynomial.{nodal, spread-but, weight}
 use Rattle.algebra.proofs.Ring.{not-same, same-not}
 use Rattle.algebra.proofs.Several.{all-at, all-of, listed-length, listed-at}
 use Rattle.algebra.proofs.Carried.{Carries}
+use Rattle.algebra.proofs.Lagrange.{but-same, but-other}
 use Rattle.field.specs.Byte as plain
 use Rattle.field.proofs.Byte.{field, laws, number, byte, number-byte, inverse, times-inverse, number-carries, number-inverse}
-use Rattle.code.specs.Weights.{spread-but, spread}
-use Rattle.code.specs.Shares.{nodal, share, shares}
+use Rattle.code.specs.Weights.{spread}
+use Rattle.code.specs.Shares.{share, shares}
 use Rattle.code.proofs.Plain.{Small, there-and-back, different, in-map, weight-back}
-use Rattle.code.proofs.Spreads.{but-same, but-other, swapped, product-some, sum-some, spread-some, weight-spread, weight-quotient, divided, number-but}
+use Rattle.code.proofs.Spreads.{swapped, product-some, sum-some, spread-some, weight-spread, weight-quotient, divided, number-but}
 
 -- an entry of a list, and what a function makes of it
 pub in-at : (l : List ℕ) (k : ℕ) → k < length l → In (getD l k 0) l

@@ -1,31 +1,19 @@
 -- A weight is a quotient of spreads: over any field, and on the plain numbers of bytes.
 use mathlib.Core.Path.{_≡_, refl, sym, ap, ap₂, subst, _∙_}
-use mathlib.Core.Logic.{_≢_, inl, inr, ⊎-elim}
+use mathlib.Core.Logic.{_≢_, ⊎-elim}
 use mathlib.Core.Bool.{Bool, true, false}
 use mathlib.Core.List.{List, [], _∷_, map}
 use Prim.Native.Nat.{ℕ}
 use Rattle.algebra.specs.Carrier.{Carrier, Laws, Inverts}
-use Rattle.algebra.specs.Several.{All, In, Distinct}
-use Rattle.algebra.specs.Polynomial.{weight}
-use Rattle.algebra.proofs.Ring.{ring, same-of-sum, not-same, same-not, unit-product}
-use Rattle.algebra.proofs.Several.{all-at, all-both}
+use Rattle.algebra.specs.Several.{All}
+use Rattle.algebra.specs.Polynomial.{spread-but, weight}
+use Rattle.algebra.proofs.Ring.{ring, same-of-sum, not-same, unit-product}
 use Rattle.algebra.proofs.Carried.{Carries}
-use Rattle.algebra.proofs.Lagrange.{factor-same, factor-other}
+use Rattle.algebra.proofs.Lagrange.{factor-same, factor-other, but-same, but-other}
 use Rattle.field.specs.Byte as plain
 use Rattle.field.proofs.Byte.{field, laws, number, byte, number-byte, inverse, times-inverse, number-carries}
-use Rattle.code.specs.Weights.{spread-but, spread}
-use Rattle.code.proofs.Plain.{Small, there-and-back, other-bytes, different, in-map, weight-back}
-
--- the two cases of a point: it is the one left out, or another
-module _ {A : Type 0} (K : Carrier A) where
-  pub but-same : (q : A) (qs : List A) (p t : A) → K .same p q ≡ true → spread-but K (q ∷ qs) p t ≡ spread-but K qs p t
-  unfolding spread-but
-  but-same q qs p t e = rw (e, spread-but)
-
-  pub but-other : (q : A) (qs : List A) (p t : A) → K .same p q ≡ false
-      → spread-but K (q ∷ qs) p t ≡ K .times (K .plus t q) (spread-but K qs p t)
-  unfolding spread-but
-  but-other q qs p t e = rw (e, spread-but)
+use Rattle.code.specs.Weights.{spread}
+use Rattle.code.proofs.Plain.{Small, there-and-back, weight-back}
 
 module _ {A B : Type 0} (K : Carrier A) (J : Carrier B) (h : A → B) (H : Carries K J h) where
   but-carried : (ps : List A) (p t : A) → h (spread-but K ps p t) ≡ spread-but J (map h ps) (h p) (h t)
@@ -47,31 +35,8 @@ module _ {A : Type 0} (K : Carrier A) (L : Laws K) where
 
   infixl 60 _⊕_
   infixl 70 _⊗_
-  -- where neither is among the points, nothing is left out
-  but-neither : (ps : List A) (p t : A) → All (λ q. p ≢ q) ps → All (λ q. t ≢ q) ps → spread-but K ps p t ≡ spread K ps t
-  unfolding spread-but spread
-  but-neither [] p t hp ht = refl
-  but-neither (q ∷ ps) p t hp ht =
-      but-other K q ps p t (same-not K L p q (hp .0))
-      ∙ ap (λ (x : A). (t ⊕ q) ⊗ x) (but-neither ps p t (hp .1) (ht .1))
-      ∙ sym (but-other K q ps t t (same-not K L t q (ht .0)))
-
   pub swapped : (a b c : A) → a ⊗ (b ⊗ c) ≡ b ⊗ (a ⊗ c)
   swapped a b c = simp (ring, L)
-
-  -- what was left out of the spread, put back
-  but-back : (ps : List A) (p t : A) → Distinct ps → In p ps → All (λ q. t ≢ q) ps → (t ⊕ p) ⊗ spread-but K ps p t ≡ spread K ps t
-  unfolding spread
-  but-back (q ∷ ps) p t d (inl e) ht =
-      ap₂ (λ (x y : A). (t ⊕ x) ⊗ y) e
-      (but-same K q ps p t (ap (same p) (sym e) ∙ L .same-self p)
-      ∙ but-neither ps p t (all-both (λ r n m. λ z. n (sym e ∙ z)) ps (d .0) (d .0)) (ht .1))
-      ∙ sym (but-other K q ps t t (same-not K L t q (ht .0)))
-  but-back (q ∷ ps) p t d (inr i) ht =
-      ap (λ (x : A). (t ⊕ p) ⊗ x) (but-other K q ps p t (same-not K L p q (λ z. all-at _ ps (d .0) p i (sym z))))
-      ∙ swapped (t ⊕ p) (t ⊕ q) (spread-but K ps p t)
-      ∙ ap (λ (x : A). (t ⊕ q) ⊗ x) (but-back ps p t (d .1) i (ht .1))
-      ∙ sym (but-other K q ps t t (same-not K L t q (ht .0)))
 
   pub product-some : (a b : A) → a ≢ none → b ≢ none → a ⊗ b ≢ none
   product-some a b ha hb e = ⊎-elim ha hb (L .no-zero-divisors a b e)
@@ -121,13 +86,6 @@ module _ {A : Type 0} (K : Carrier A) (L : Laws K) where
     pub weight-quotient : (ps : List A) (p t : A) → weight K inverse ps p t ≡ spread-but K ps p t ⊗ inverse (spread K ps p)
     weight-quotient ps p t = divided _ _ _ (spread-some ps p) (weight-spread ps p t)
 
-    -- for different points, p among them and t not
-    weight-spreads : (ps : List A) (p t : A) → Distinct ps → In p ps → All (λ q. t ≢ q) ps
-        → weight K inverse ps p t ≡ spread K ps t ⊗ inverse ((t ⊕ p) ⊗ spread K ps p)
-    weight-spreads ps p t d i ht =
-        divided _ _ _ (product-some (t ⊕ p) (spread K ps p) (sum-some t p (all-at _ ps ht p i)) (spread-some ps p))
-        (swapped _ (t ⊕ p) (spread K ps p) ∙ ap (λ (x : A). (t ⊕ p) ⊗ x) (weight-spread ps p t) ∙ but-back ps p t d i ht)
-
 module _ (ps : List ℕ) (small : All Small ps) where
   pub number-but : (p t : ℕ) → Small p → Small t
       → number (spread-but field (map byte ps) (byte p) (byte t)) ≡ spread-but plain.bytes ps p t
@@ -143,18 +101,3 @@ module _ (ps : List ℕ) (small : All Small ps) where
       sym (weight-back ps small p t hp ht)
       ∙ ap number (weight-quotient field laws inverse times-inverse (map byte ps) (byte p) (byte t))
       ∙ ap₂ (λ (x y : ℕ). plain.times x (plain.inverse y)) (number-but p t hp ht) (number-but p p hp hp)
-
-  -- a cut needs one spread for each point of the block's own bodies, and one for each further body
-  pub plain-spreads : (p t : ℕ) → Small t → Distinct ps → In p ps → All (λ q. t ≢ q) ps
-      → weight plain.bytes plain.inverse ps p t
-      ≡ plain.times (spread plain.bytes ps t) (plain.inverse (plain.times (plain.plus t p) (spread plain.bytes ps p)))
-  unfolding spread
-  plain-spreads p t ht d i apart =
-      sym (weight-back ps small p t hp ht)
-      ∙ ap number (weight-spreads field laws inverse times-inverse (map byte ps) (byte p) (byte t)
-      (different ps small d) (in-map byte ps p i) (other-bytes t ht ps small apart))
-      ∙ (λ j. plain.times (number-but t t ht ht j)
-      (plain.inverse (plain.times (plain.plus (number-byte t ht j) (number-byte p hp j)) (number-but p p hp hp j))))
-    where
-      hp : Small p
-      hp = all-at _ ps small p i

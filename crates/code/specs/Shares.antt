@@ -1,22 +1,17 @@
 -- The weights of all the points at once: one spread for each point serves every t.
 use mathlib.Core.Bool.{true, false}
-use mathlib.Core.List.{List, [], _∷_, _++_}
+use mathlib.Core.List.{List, _++_}
 use Prim.Native.Nat.{ℕ, min}
 use lib.ListN.{length, getD, take, drop}
 use Rattle.algebra.specs.Carrier.{Carrier}
+use Rattle.algebra.specs.Polynomial.{nodal}
 use Rattle.algebra.specs.Several.{listed}
 use Rattle.field.specs.Byte.{bytes, inverse}
 
-module _ {A : Type 0} (K : Carrier A) where
-  -- the product of t - q over all the points q: zero exactly at the points
-  unfoldable pub nodal : List A → A → A
-  nodal [] t = K .unit
-  nodal (q ∷ qs) t = K .times (K .plus t q) (nodal qs t)
-
-  -- how much the value at p counts at t, from the points' product at t and p's spread: all of it at p itself
-  unfoldable pub share : (A → A) → A → A → A → A → A
-  share inverse whole p spread t =
-      elim (K .same t p) [ true ↦ K .unit | false ↦ K .times whole (inverse (K .times (K .plus t p) spread)) ]
+-- how much the value at p counts at t, from the points' product at t and p's spread: all of it at p itself
+unfoldable pub share : {A : Type 0} → Carrier A → (A → A) → A → A → A → A → A
+share K inverse whole p spread t =
+    elim (K .same t p) [ true ↦ K .unit | false ↦ K .times whole (inverse (K .times (K .plus t p) spread)) ]
 
 -- the share of each point, as far as there are spreads
 unfoldable pub shares : List ℕ → List ℕ → ℕ → List ℕ

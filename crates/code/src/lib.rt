@@ -9,6 +9,7 @@ ghost use Rattle.field.specs.Byte.{bytes, inverse};
 ghost use Rattle.code.specs.Cutting as cutting;
 ghost use Rattle.code.specs.Weights as weights;
 ghost use Rattle.code.specs.Adding as adding;
+pub use weights::coefficients;
 pub use weights::each_share;
 pub use weights::each_spread;
 
@@ -40,14 +41,14 @@ pub fn points() -> [u8; 255]
 pub fn spread(points: &[u8], t: u8) -> u8
     ensures { λ r. ⌜ r ≡ weights.spread bytes (now (points .entry)) t ⌝ }
 {
-    spread_but(points, t, t)
+    field::spread_but(points, t, t)
 }
 
 // How much the value at p counts at t: Lagrange's product over the points.
 pub fn weight(points: &[u8], p: u8, t: u8) -> u8
     ensures { λ r. ⌜ r ≡ polynomial.weight bytes inverse (now (points .entry)) p t ⌝ }
 {
-    field::quotient(spread_but(points, p, t), spread(points, p))
+    field::quotient(field::spread_but(points, p, t), spread(points, p))
 }
 
 // How much body j counts in body i; 0 where j is not below m, and 1 or 0 where i is.
@@ -79,22 +80,6 @@ pub fn add_scaled(sum: &mut [u8], body: &[u8], by: u8)
         sum[k] = sum[k] ^ row[body[k] as usize];
         k += 1;
     }
-}
-
-// The product of t + q over the points q that are not p.
-fn spread_but(points: &[u8], p: u8, t: u8) -> u8
-    ensures { λ r. ⌜ r ≡ weights.spread-but bytes (now (points .entry)) p t ⌝ }
-{
-    let mut product = 1;
-    let mut k = points.len();
-    while k > 0 {
-        k -= 1;
-        let q = points[k];
-        if p != q {
-            product = field::times(field::plus(t, q), product);
-        }
-    }
-    product
 }
 
 fn shorter(a: usize, b: usize) -> usize

@@ -1,7 +1,6 @@
 pub mod Among
 pub mod Filling
 pub mod Planning
-pub mod Quotients
 pub mod Records
 pub mod Refusals
 pub mod Sources

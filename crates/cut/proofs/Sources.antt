@@ -1,16 +1,16 @@
 -- A body from the block: what stands of it in the block with zero bytes behind, or the sum of all that stand there, each by its
 -- coefficient.
-use mathlib.Core.Path.{_≡_, refl, sym, ap, ap₂, _∙_}
+use mathlib.Core.Path.{_≡_, refl, sym, ap, _∙_}
 use mathlib.Core.List.{List, [], _∷_, _++_, map, append-nil}
 use Prim.Native.Nat.{ℕ, zero, suc, _+_, _-_, _*_, _^_, _<_, _≤_, min}
 use native.Mathlib.Nat.{not-suc-le-zero, le-of-suc-le-suc, le-of-lt, mul-le-mul-right}
 use native.Mathlib.Decide.{decLe}
 use native.Mathlib.Omega.{arith}
-use lib.ListN.{length, getD, take, drop, replicate, length-take, length-drop, length-append, length-replicate, getD-replicate, drop-of-length-le, List·getD-eq-default}
-use lib.Seq.{take-all, take-at, getD-take, getD-drop}
-use Rattle.algebra.specs.Several.{listed, All}
+use lib.ListN.{length, getD, take, drop, replicate, length-take, length-drop, length-append, length-replicate, drop-of-length-le}
+use lib.Seq.{take-all, getD-take, getD-drop}
+use Rattle.algebra.specs.Several.{All}
 use Rattle.algebra.specs.Combination.{combined, itself}
-use Rattle.algebra.proofs.Several.{listed-length, listed-at, map-listed}
+use Rattle.algebra.proofs.Several.{listed-at}
 use Rattle.field.specs.Byte.{plus, times, bytes}
 use Rattle.field.proofs.Sum.{plus-none, plus-comm}
 use Rattle.field.proofs.Product.{times-none}
@@ -19,7 +19,7 @@ use Rattle.code.specs.Cutting.{points, source, byte-of, body, coefficient-of}
 use Rattle.code.proofs.Plain.{Small}
 use Rattle.code.proofs.Bodies.{byte-own, byte-combined, points-length}
 use Rattle.code.proofs.Sums.{added-length}
-use Rattle.code.proofs.Walks.{Listed, listed-all, dropped}
+use Rattle.code.proofs.Walks.{listed-all, dropped}
 use Rattle.record.specs.Put.{put}
 use Rattle.record.proofs.Buffer.{put-fits}
 
@@ -70,17 +70,6 @@ cleared before out k e h =
 -- where the buffer is known to be n bytes long
 pub zeros-of : (before out : List ℕ) (n : ℕ) → out ≡ replicate (length before) 0 → length before ≡ n → out ≡ replicate n 0
 zeros-of before out n e h = e ∙ ap (λ (k : ℕ). replicate k 0) h
-
--- the first n entries of an array that were lent, and came back filled
-module _ (n : ℕ) (part rest filled : List ℕ) (e : part ≡ filled) (count : length filled ≡ n) where
-  pub back : take n (part ++ rest) ≡ filled
-  back = take-at part rest n (ap length e ∙ count) ∙ e
-
-  pub back-room : n ≤ length (part ++ rest)
-  back-room = omega (arith, length-append part rest, ap length e, count)
-
-  pub back-count : n ≡ length (take n (part ++ rest))
-  back-count = sym (ap length back ∙ count)
 
 -- what reads as zero may stand behind
 padded-at : (a z : List ℕ) → ((q : ℕ) → getD z q 0 ≡ 0) → (p : ℕ) → getD (a ++ z) p 0 ≡ getD a p 0
@@ -158,11 +147,11 @@ module _ (m F : ℕ) (block : List ℕ) where
             sym (dropped (points m) j 0 some (omega (arith, points-length m))
             ∙ ap (λ (x : ℕ). x ∷ drop j (points m)) (listed-at m (λ k. k) 0 (j - 1) (omega arith)))
 
-  pub summed-all : m ≤ 256 → All Small block → (i : ℕ) → Small i → (cs : List ℕ) (j : ℕ) (out : List ℕ) → cs ≡ listed m (coefficient-of m i) → j ≡ 0
+  pub summed-all : m ≤ 256 → All Small block → (i : ℕ) → Small i → (cs : List ℕ) (j : ℕ) (out : List ℕ) → cs ≡ map (coefficient-of m i) (points m) → j ≡ 0
       → Summed cs j out → out ≡ body m F block i
   unfolding points
   summed-all hm hb i hi cs j out ec ej S =
       whole-body i out (S .long)
       (λ p l. S .at p l
-      ∙ (λ k. combined (itself bytes) (drop (ej k) ((ec ∙ sym (map-listed (coefficient-of m i) m (λ j. j))) k)) (map (source F block p) (drop (ej k) (points m))))
+      ∙ (λ k. combined (itself bytes) (drop (ej k) (ec k)) (map (source F block p) (drop (ej k) (points m))))
       ∙ sym (byte-combined m F hm block hb i hi p))

@@ -1,9 +1,8 @@
 // A body of a block, written where it belongs: the block's own bytes, or the sum of its own bodies by their coefficients.
-use crate::coefficients::coefficients;
 ghost use mathlib.Core.Path.{_≡_};
+ghost use mathlib.Core.List.{map};
 ghost use Prim.Native.Nat.{_*_, _≤_, min};
 ghost use lib.ListN.{length, take, drop, replicate};
-ghost use Rattle.algebra.specs.Several.{listed};
 ghost use Rattle.field.specs.Byte.{bytes};
 ghost use Rattle.code.specs.Cutting as cutting;
 ghost use Rattle.code.specs.Weights as weights;
@@ -20,7 +19,7 @@ pub(crate) fn write_body(
 )
     requires { ⌜ length (now out) ≡ size ⌝ }
     requires { ⌜ now points ≡ cutting.points m ⌝ }
-    requires { ⌜ now spreads ≡ listed m (weights.spread bytes (now points)) ⌝ }
+    requires { ⌜ now spreads ≡ map (weights.spread bytes (now points)) (now points) ⌝ }
     ensures { λ r. ⌜ now (out .exit) ≡ cutting.body m size (now (block .entry)) index ⌝ }
 {
     clear(out);
@@ -30,7 +29,7 @@ pub(crate) fn write_body(
     }
     let mut room = [0u8; 255];
     let count = m as usize;
-    coefficients(m, index, points, spreads, &mut room[..count]);
+    code::each_share(points, spreads, index, &mut room[..count]);
     add_all(out, m, size, index, block, &room[..count]);
 }
 
@@ -47,7 +46,7 @@ fn clear(out: &mut [u8])
 // Adds each of the block's own bodies, scaled by its coefficient in body `index`, to zero bytes.
 fn add_all(out: &mut [u8], m: u8, size: u32, index: u8, block: &[u8], coefficients: &[u8])
     requires { ⌜ now out ≡ replicate size 0 ⌝ }
-    requires { ⌜ now coefficients ≡ listed m (cutting.coefficient-of m index) ⌝ }
+    requires { ⌜ now coefficients ≡ map (cutting.coefficient-of m index) (cutting.points m) ⌝ }
     ensures { λ r. ⌜ now (out .exit) ≡ cutting.body m size (now (block .entry)) index ⌝ }
 {
     let mut j = m;

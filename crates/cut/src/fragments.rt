@@ -1,9 +1,9 @@
 // The n fragment records of a block, end to end.
 use crate::WRITTEN;
 use crate::bodies::write_body;
-use crate::coefficients::spreads;
 use record::FragmentHead;
 ghost use mathlib.Core.Path.{_≡_};
+ghost use mathlib.Core.List.{map};
 ghost use Prim.Native.Nat.{_*_, _≤_};
 ghost use lib.ListN.{length};
 ghost use Rattle.limits.specs.Limits.{longest-block};
@@ -25,7 +25,7 @@ pub(crate) fn write_fragments(m: u8, n: u8, number: u64, block: &[u8], fragments
     let points = code::points();
     let mut room = [0u8; 255];
     let count = m as usize;
-    spreads(m, &points[..count], &mut room[..count]);
+    code::each_spread(&points[..count], &mut room[..count]);
     write_each(
         m,
         n,
@@ -51,7 +51,7 @@ fn write_each(
 )
     requires { ⌜ m ≤ n ⌝ }
     requires { ⌜ now points ≡ cutting.points m ⌝ }
-    requires { ⌜ now spreads ≡ listed m (weights.spread bytes (now points)) ⌝ }
+    requires { ⌜ now spreads ≡ map (weights.spread bytes (now points)) (now points) ⌝ }
     requires { ⌜ length (now fragments) ≡ n * layout.record-length layout.written-version size ⌝ }
     ensures { λ r. ⌜ now (fragments .exit) ≡ end-to-end (listed n (λ i. records.fragment-record layout.written-version number i (cutting.body m size (now (block .entry)) i))) ⌝ }
 {
@@ -82,7 +82,7 @@ fn write_record(
 )
     requires { ⌜ length (now out) ≡ layout.record-length (head .version) (head .size) ⌝ }
     requires { ⌜ now points ≡ cutting.points m ⌝ }
-    requires { ⌜ now spreads ≡ listed m (weights.spread bytes (now points)) ⌝ }
+    requires { ⌜ now spreads ≡ map (weights.spread bytes (now points)) (now points) ⌝ }
     ensures { λ r. ⌜ now (out .exit) ≡ records.fragment-record (head .version) (head .number) (head .index) (cutting.body m (head .size) (now (block .entry)) (head .index)) ⌝ }
 {
     record::write_fragment_head(out, head);

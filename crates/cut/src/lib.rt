@@ -2,7 +2,6 @@
 // `cut` with the counts that the caller names, `cut_standard` with the standard ones; `card_size` plans for the standard ones.
 // No public function asks anything of its caller; on a refusal both buffers hold what they held.
 mod bodies;
-mod coefficients;
 mod fragments;
 mod refusal;
 mod standard;

@@ -1,6 +1,7 @@
 pub mod Additive
 pub mod Byte
 pub mod Cases
+pub mod Growth
 pub mod Inverses
 pub mod Laws
 pub mod Lookups

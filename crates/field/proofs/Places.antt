@@ -7,7 +7,7 @@ use Prim.Native.Nat.{ℕ, zero, suc, _<_}
 use native.Mathlib.Omega.{arith}
 use lib.Dec.{T, eqb, ltb, eqb→eq, ltb→lt}
 use lib.ListN.{getD}
-use Rattle.field.specs.Byte.{plus, xtime, product, times, power, Powers}
+use Rattle.field.specs.Byte.{plus, xtime, product, times, power, Powers, Places}
 use Rattle.field.proofs.Test.{both, every, at}
 use Rattle.field.proofs.Power.{follows, tested}
 
@@ -64,8 +64,13 @@ place-at (suc a) h n =
     sym (table-powers (getD places (suc a) 0) near)
     ∙ eqb→eq (getD table (getD places (suc a) 0) 0) (suc a) (at 255 right right-all a (omega arith))
 
--- what is read in the table of places at a
-pub place-read : (a i r : ℕ) → a < 256 → i ≡ a → r ≡ getD places i 0 → (r < 255) × (a ≢ 0 → power 3 r ≡ a)
-place-read a i r h e read =
-    let at-a : r ≡ getD places a 0 = read ∙ ap (λ (x : ℕ). getD places x 0) e in
-    (omega (arith, place-lt a h), λ some. ap (power 3) at-a ∙ place-at a h some)
+pub places-rule : Places places
+unfolding Places
+places-rule a h = (place-lt a h, place-at a h)
+
+-- what is read at a in a table with the rule
+pub place-read : (t : List ℕ) → Places t → (a i r : ℕ) → a < 256 → i ≡ a → r ≡ getD t i 0 → (r < 255) × (a ≢ 0 → power 3 r ≡ a)
+unfolding Places
+place-read t rule a i r h e read =
+    let at-a : r ≡ getD t a 0 = read ∙ ap (λ (x : ℕ). getD t x 0) e in
+    (omega (arith, rule a h .0), λ some. ap (power 3) at-a ∙ rule a h .1 some)

@@ -1,7 +1,8 @@
 -- Bytes as a field, on the numbers 0 to 255 that stand for them: FIPS 197 (2001), sections 4.1, 4.2 and 4.2.1.
 use mathlib.Core.Path.{_≡_}
+use mathlib.Core.Logic.{_≢_}
 use Prim.Native.Nat.{ℕ, zero, suc, _*_, _/_, _%_, _<_}
-use mathlib.Core.Bool.{true, false}
+use mathlib.Core.Bool.{true, false, cond}
 use mathlib.Core.List.{List, [], _∷_, _++_}
 use lib.Bits.{bitXor}
 use lib.Dec.{eqb}
@@ -33,6 +34,14 @@ power a (suc k) = times (power a k) a
 -- what document 01 asks of its table of powers: "entry k is 03 to the power k, k from 0 to 509"
 unfoldable pub Powers : List ℕ → Type 0
 Powers t = (k : ℕ) → k < 510 → getD t k 0 ≡ power 3 k
+
+-- the place of each byte but {00} among the first 255 powers of 03
+unfoldable pub Places : List ℕ → Type 0
+Places t = (a : ℕ) → a < 256 → (getD t a 0 < 255) × (a ≢ 0 → power 3 (getD t a 0) ≡ a)
+
+-- the byte at a place; 255 stands for {00}, which has none
+unfoldable pub at-place : ℕ → ℕ
+at-place k = cond (eqb k 255) 0 (power 3 k)
 
 -- the largest b below n with a • b = {01}; {00} where there is none
 unfoldable pub inverse-below : ℕ → ℕ → ℕ

@@ -1,8 +1,13 @@
 // The bytes as the field of FIPS 197: sum, product, inverse and quotient of two bytes, and the row of all products by one byte.
-// Products stand on one table of the powers of 03. No function asks anything of its caller.
+// Products stand on one table of the powers of 03; those over many points add up places and read each table once. No public function
+// asks anything of its caller.
+mod many;
 mod tables;
 
+pub use many::nodal;
+pub use many::spread_but;
 use tables::place;
+use tables::places;
 use tables::powers;
 use tables::wide;
 ghost use mathlib.Core.Path.{_≡_};
@@ -24,7 +29,8 @@ pub fn times(a: u8, b: u8) -> u8
         return 0;
     }
     let table = powers();
-    table[place(a) + place(b)]
+    let at = places();
+    table[place(&at, a) + place(&at, b)]
 }
 
 // 0 for 0.
@@ -35,7 +41,8 @@ pub fn inverse(a: u8) -> u8
         return 0;
     }
     let table = powers();
-    table[255 - place(a)]
+    let at = places();
+    table[255 - place(&at, a)]
 }
 
 // a times the inverse of b, so 0 where b is 0.
@@ -49,7 +56,8 @@ pub fn quotient(a: u8, b: u8) -> u8
         return 0;
     }
     let table = powers();
-    table[place(a) + (255 - place(b))]
+    let at = places();
+    table[place(&at, a) + (255 - place(&at, b))]
 }
 
 // Entry x is the product of `by` and x: one lookup for each product by the same byte.
@@ -60,7 +68,8 @@ pub fn row(by: u8) -> [u8; 256]
     if by == 0 {
         return out;
     }
-    let at = place(by);
+    let places = places();
+    let at = place(&places, by);
     let table = powers();
     let mut k = 0;
     while k < 255 {

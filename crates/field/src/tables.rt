@@ -1,4 +1,5 @@
 // The table of the powers of 03, and the place of each byte in it. Each table is read by one function, so that its rule is proved once.
+// Reading it is copying it, so a function of many products reads it once.
 ghost use mathlib.Core.Path.{_≡_};
 ghost use mathlib.Core.Logic.{_≢_};
 ghost use Prim.Native.Nat.{_<_};
@@ -17,11 +18,18 @@ pub(crate) fn powers() -> [u8; 510]
     POWERS
 }
 
-// The one reader of PLACES. The place of 0 says nothing.
-pub(crate) fn place(a: u8) -> usize
+// The one reader of PLACES: whoever has the array has its rule. The place of 0 says nothing.
+pub(crate) fn places() -> [u8; 256]
+    ensures { λ r. ⌜ byte.Places r ⌝ }
+{
+    PLACES
+}
+
+pub(crate) fn place(places: &[u8; 256], a: u8) -> usize
+    requires { ⌜ byte.Places (now places) ⌝ }
     ensures { λ r. ⌜ (r < 255) × (a ≢ 0 → byte.power 3 r ≡ a) ⌝ }
 {
-    wide(PLACES[wide(a)])
+    wide(places[wide(a)])
 }
 
 // Entry k is 03 to the power k. The powers repeat from entry 255 on, so that the sum of two places is a place.

@@ -1,5 +1,6 @@
 pub mod Linear
 pub mod Reading
+pub mod Called
 pub mod Combined
 pub mod Exits
 pub mod Lookups

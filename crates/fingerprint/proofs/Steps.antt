@@ -1,21 +1,16 @@
 -- What the loops over columns rest on: a list of bytes read as columns from the last to the first.
 use mathlib.Core.Path.{_≡_, refl, sym, ap, ap₂, _∙_}
-use mathlib.Core.List.{List, [], _∷_, map}
-use Prim.Native.Nat.{ℕ, _+_, _-_, _*_, _<_, _≤_}
-use native.Mathlib.Nat.{le-of-eq, not-suc-le-zero, add-zero}
+use mathlib.Core.List.{List, [], _∷_}
+use Prim.Native.Nat.{ℕ, _+_, _-_, _<_, _≤_}
+use native.Mathlib.Nat.{not-suc-le-zero, add-zero}
 use native.Mathlib.Decide.{decLt}
 use native.Mathlib.Omega.{arith}
 use lib.Bits.{bitXor}
-use lib.ListN.{length, getD, drop, length-drop, drop-of-length-le, length-map}
+use lib.ListN.{length, getD, drop, length-drop, drop-of-length-le}
 use lib.Seq.{getD-drop, drop-drop}
-use Rattle.algebra.specs.Combination.{combined}
-use Rattle.algebra.proofs.Several.{listed-at, map-listed}
 use Rattle.column.specs.declared.Column.{Column}
-use Rattle.column.specs.Column.{zero, plus, scaled, times, column-space}
-use Rattle.code.specs.Cutting.{points, coefficient-of}
-use Rattle.code.proofs.Bodies.{points-length}
-use Rattle.code.proofs.Walks.{dropped}
-use Rattle.fingerprint.specs.Fingerprint.{columns-of, called-for}
+use Rattle.column.specs.Column.{zero, plus, times}
+use Rattle.fingerprint.specs.Fingerprint.{columns-of}
 use Rattle.fingerprint.specs.Horner.{packed, unpacked, looked-up, Halves, halves, evaluated}
 use Rattle.fingerprint.proofs.Packing.{unpacked-packed, unpacked-plus}
 
@@ -111,53 +106,3 @@ module _ (t body : List ℕ) where
       let z : k ≡ 0 = omega arith in
       ap₂ plus (eu ∙ P .even-is ∙ ap (λ (n : ℕ). halves-from n .even) z)
       (ew ∙ ap (times y) (ev ∙ P .odd-is ∙ ap (λ (n : ℕ). halves-from n .odd) z))
-
-module _ (m i : ℕ) (prints : List ℕ) where
-  -- body i's own coefficients
-  own : List ℕ
-  own = map (coefficient-of m i) (points m)
-
-  -- the combination from the j-th fingerprint on
-  pub called-from : ℕ → Column
-  called-from j = combined column-space (drop j own) (columns-of (drop (3 * j) prints))
-
-  own-length : length own ≡ m
-  unfolding own
-  own-length = length-map (points m) (coefficient-of m i) ∙ points-length m
-
-  own-at : (j : ℕ) → j < m → getD own j 0 ≡ coefficient-of m i j
-  unfolding own points
-  own-at j h =
-      ap (λ (l : List ℕ). getD l j 0) (map-listed (coefficient-of m i) m (λ k. k)) ∙ listed-at m (coefficient-of m i) 0 j h
-
-  none-called : (cs : List ℕ) → combined column-space cs [] ≡ zero
-  unfolding combined
-  none-called [] = refl
-  none-called (c ∷ cs) = refl
-
-  -- from the m-th on there is no coefficient
-  pub called-none : zero ≡ called-from m
-  unfolding called-from combined
-  called-none = sym (ap (λ (cs : List ℕ). combined column-space cs (columns-of (drop (3 * m) prints))) (drop-of-length-le own (le-of-eq own-length)))
-
-  behind : (j : ℕ) → length prints ≤ 3 * j → called-from j ≡ zero
-  unfolding called-from
-  behind j h = ap (combined column-space (drop j own)) (no-column prints (3 * j) h) ∙ none-called (drop j own)
-
-  -- a turn behind the last fingerprint, and one at a fingerprint
-  pub called-beyond : (j : ℕ) (sum : Column) → length prints ≤ 3 * (j - 1) → sum ≡ called-from j → sum ≡ called-from (j - 1)
-  called-beyond j sum h e = e ∙ behind j (omega arith) ∙ sym (behind (j - 1) h)
-
-  pub called-turn : (j c : ℕ) (v w sum : Column) → 0 < j → j ≤ m → 3 * (j - 1) < length prints
-      → v ≡ column-at prints (3 * (j - 1)) → c ≡ coefficient-of m i (j - 1) → w ≡ scaled c v → sum ≡ called-from j
-      → plus w sum ≡ called-from (j - 1)
-  unfolding called-from combined
-  called-turn j c v w sum some within inside ev ec ew es =
-      ap₂ plus (ew ∙ ap₂ scaled (ec ∙ sym (own-at (j - 1) (omega arith))) ev)
-      (es ∙ ap (λ (n : ℕ). combined column-space (drop j own) (columns-of (drop n prints))) (let e : 3 * j ≡ 3 * (j - 1) + 3 = omega arith in e))
-      ∙ sym (ap₂ (combined column-space) (dropped own j 0 some (omega (arith, own-length))) (next-column prints (3 * (j - 1)) inside))
-
-  -- from the first on, the whole
-  pub called-all : (j : ℕ) (sum : Column) → j ≤ 0 → sum ≡ called-from j → sum ≡ called-for m i (columns-of prints)
-  unfolding called-from called-for own
-  called-all j sum h e = e ∙ ap called-from (let z : j ≡ 0 = omega arith in z)

@@ -3,6 +3,9 @@
 ghost use mathlib.Core.Path.{_≡_};
 ghost use Prim.Native.Nat.{_+_, _≤_, _<_};
 ghost use lib.ListN.{length, getD, drop};
+ghost use Rattle.algebra.specs.Combination.{combined};
+ghost use Rattle.column.specs.Column.{column-space};
+ghost use Rattle.column.specs.Column as column;
 ghost use Rattle.fingerprint.specs.Fingerprint as print;
 ghost use Rattle.fingerprint.specs.Horner as horner;
 ghost use Rattle.fingerprint.specs.Answer as answer;
@@ -135,22 +138,43 @@ fn unpacked(value: u32) -> Column
     }
 }
 
-// The combination of the fingerprints, three bytes each, by body i's own coefficients.
+// The combination of the fingerprints, three bytes each, by body i's own coefficients: below m that is the fingerprint of body i itself.
 pub fn called_for(m: u8, i: u8, prints: &[u8]) -> Column
     ensures { λ r. ⌜ r ≡ print.called-for m i (print.columns-of (now (prints .entry))) ⌝ }
+{
+    if i < m {
+        return print_at(prints, i);
+    }
+    let mut room = [0u8; 255];
+    let count = m as usize;
+    code::coefficients(m, i, &mut room[..count]);
+    combination(&room[..count], m, prints)
+}
+
+// The fingerprints scaled by m coefficients, from the last to the first.
+fn combination(coefficients: &[u8], m: u8, prints: &[u8]) -> Column
+    requires { ⌜ length (now coefficients) ≡ m ⌝ }
+    ensures { λ r. ⌜ r ≡ combined column-space (now (coefficients .entry)) (print.columns-of (now (prints .entry))) ⌝ }
 {
     let mut sum = Column::ZERO;
     let mut j = m;
     while j > 0 {
         j -= 1;
-        let at = 3 * (j as usize);
-        if at < prints.len() {
-            sum = column_at(prints, at)
-                .scaled(code::coefficient(m, i, j))
-                .plus(sum);
-        }
+        let by = coefficients[j as usize];
+        sum = print_at(prints, j).scaled(by).plus(sum);
     }
     sum
+}
+
+// Fingerprint j, the zero column where there is none.
+fn print_at(prints: &[u8], j: u8) -> Column
+    ensures { λ r. ⌜ r ≡ getD (print.columns-of (now (prints .entry))) j column.zero ⌝ }
+{
+    let at = 3 * (j as usize);
+    if at < prints.len() {
+        return column_at(prints, at);
+    }
+    Column::ZERO
 }
 
 // The three bytes from `at` on, zero where there are none.

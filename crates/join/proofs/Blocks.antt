@@ -18,6 +18,7 @@ use Rattle.algebra.proofs.Several.{listed-length, listed-at, listed-same}
 use Rattle.field.specs.Byte.{bytes, inverse}
 use Rattle.code.specs.Weights.{spread}
 use Rattle.code.specs.Shares.{shares, overlaid}
+pub use Rattle.code.proofs.AtOnce.{spread-all}
 use Rattle.code.proofs.Plain.{Small}
 use Rattle.code.proofs.Shares.{shares-weights}
 use Rattle.code.proofs.Overlays.{over-all}
@@ -25,12 +26,7 @@ use Rattle.code.proofs.Walks.{Listed, dropped}
 use Rattle.join.specs.Join.{all-zero}
 use Rattle.join.specs.Parts.{mixed, block-byte}
 
--- the spreads of the indexes, where there is room for all of them
-pub spread-all : (indexes room part : List ℕ) → length room ≡ length indexes → part ≡ overlaid (map (spread bytes indexes) indexes) room
-    → part ≡ map (spread bytes indexes) indexes
-spread-all indexes room part long e = e ∙ over-all _ room (length-map indexes (spread bytes indexes) ∙ sym long)
-
--- and the shares of different ones
+-- the shares of different indexes, where there is room for all of them
 pub weighed : (indexes spreads room by : List ℕ) (t : ℕ) → All Small indexes → Distinct indexes → Small t → spreads ≡ map (spread bytes indexes) indexes
     → length room ≡ length indexes → by ≡ overlaid (shares indexes spreads t) room → by ≡ map (λ i. weight bytes inverse indexes i t) indexes
 weighed indexes spreads room by t small d ht es long eb =

@@ -13,6 +13,9 @@ returns c = sym (ap inverse (c .if1 .taken) ∙ inverse-none)
 powers-requires : tie.Need-powers-requires
 powers-requires c κs = search needs
 
+places-requires : tie.Need-places-requires
+places-requires c κs = search needs
+
 place-requires : tie.Need-place-requires
 place-requires c κs = search needs
 
@@ -24,10 +27,10 @@ array-read-result c = search needs
 
 returns-2 : tie.Need-returns-2
 returns-2 c =
-    look-inverse _ (c .before .powers .ensures) _ _ (c .place .ensures .0)
-    (c .place .ensures .1 (c .before .before .if1 .left))
+    let b3 = c .before .before .before in
+    look-inverse _ (b3 .powers .ensures) _ _ (c .place .ensures .0) (c .place .ensures .1 (b3 .before .if1 .left))
 
 pub inverse-spec : {M : Type 1} → statement M
 inverse-spec =
     tie.close
-    (tie.spec returns powers-requires place-requires sub-result array-read-result returns-2)
+    (tie.spec returns powers-requires places-requires place-requires sub-result array-read-result returns-2)

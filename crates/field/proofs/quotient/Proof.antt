@@ -16,6 +16,9 @@ returns-2 c = none-right _ _ (ap inverse (c .if2 .taken) ∙ inverse-none)
 powers-requires : tie.Need-powers-requires
 powers-requires c κs = search needs
 
+places-requires : tie.Need-places-requires
+places-requires c κs = search needs
+
 place-requires : tie.Need-place-requires
 place-requires c κs = search needs
 
@@ -33,10 +36,10 @@ array-read-result c = search needs
 
 returns-3 : tie.Need-returns-3
 returns-3 c =
-    look-quotient _ (c .before .before .powers .ensures) _ _ _ _
-    (c .before .place .ensures .0) (c .place2 .ensures .0)
-    (c .before .place .ensures .1 (c .before .before .before .before .if1 .left))
-    (c .place2 .ensures .1 (c .before .before .before .if2 .left))
+    let b6 = c .before .before .before .before .before .before in
+    look-quotient _ (c .before .before .before .before .before .powers .ensures) _ _ _ _
+    (c .before .before .place .ensures .0) (c .place2 .ensures .0)
+    (c .before .before .place .ensures .1 (b6 .before .if1 .left)) (c .place2 .ensures .1 (b6 .if2 .left))
 
 pub quotient-spec : {M : Type 1} → statement M
 quotient-spec =
@@ -45,6 +48,7 @@ quotient-spec =
     returns
     returns-2
     powers-requires
+    places-requires
     place-requires
     place-requires-2
     sub-result

@@ -16,6 +16,9 @@ abbrev μ-loop : tie.MeasureT-loop
 returns : tie.Need-returns Inv-loop μ-loop
 returns c = row-none _ (c .if1 .taken)
 
+places-requires : tie.Need-places-requires Inv-loop μ-loop
+places-requires c κs = search needs
+
 place-requires : tie.Need-place-requires Inv-loop μ-loop
 place-requires c κs = search needs
 
@@ -51,7 +54,7 @@ loop-again : tie.Need-loop-again Inv-loop μ-loop
 loop-again c = (
   omega arith,
   fill-read _ _ _ _ _ _ (c .before .before .before .powers .ensures) (omega arith)
-      (c .before .before .before .before .place .ensures .1 (c .before .before .before .before .before .if1 .left))
+      (c .before .before .before .before .place .ensures .1 (c .before .before .before .before .before .before .before .if1 .left))
       (c .wide .ensures) (c .before .before .loop .inv .1),
 )
 
@@ -65,6 +68,7 @@ row-spec =
     Inv-loop
     μ-loop
     returns
+    places-requires
     place-requires
     powers-requires
     loop-holds

@@ -14,6 +14,9 @@ returns-2 c = none-right _ _ (c .if2 .taken)
 powers-requires : tie.Need-powers-requires
 powers-requires c κs = search needs
 
+places-requires : tie.Need-places-requires
+places-requires c κs = search needs
+
 place-requires : tie.Need-place-requires
 place-requires c κs = search needs
 
@@ -28,9 +31,9 @@ array-read-result c = search needs
 
 returns-3 : tie.Need-returns-3
 returns-3 c =
-    look-times _ (c .before .before .powers .ensures) _ _ _ _ (omega arith)
-    (c .before .place .ensures .1 (c .before .before .before .before .if1 .left))
-    (c .place2 .ensures .1 (c .before .before .before .if2 .left))
+    let b6 = c .before .before .before .before .before .before in
+    look-times _ (c .before .before .before .before .before .powers .ensures) _ _ _ _ (omega arith)
+    (c .before .before .place .ensures .1 (b6 .before .if1 .left)) (c .place2 .ensures .1 (b6 .if2 .left))
 
 pub times-spec : {M : Type 1} → statement M
 times-spec =
@@ -39,6 +42,7 @@ times-spec =
     returns
     returns-2
     powers-requires
+    places-requires
     place-requires
     place-requires-2
     add-result

@@ -3,7 +3,7 @@ use mathlib.Core.Path.{_≡_, ap, sym, _∙_}
 use Prim.Native.Nat.{_≤_}
 use lib.ListN.{length, length-replicate}
 use native.Mathlib.Omega.{arith}
-use Rattle.algebra.proofs.Several.{listed-length}
+use Rattle.code.proofs.AtOnce.{coefficients-length}
 use Rattle.code.proofs.Walks.{all-small}
 use Rattle.cut.proofs.Sources.{Summed, summed-none, summed-more, summed-all}
 use borrow.Author.Needs.{needs}
@@ -19,7 +19,7 @@ abbrev μ-loop : tie.MeasureT-loop
 loop-holds : tie.Need-loop-holds Inv-loop μ-loop
 loop-holds c =
     let start = c .before .before .before in
-    let count = ap length (start .pre .1) ∙ listed-length _ _ in
+    let count = ap length (start .pre .1) ∙ coefficients-length _ (start .args .index) in
     (omega arith, count, summed-none _ _ (start .args .block .now) (start .args .coefficients .now) count (start .args .out .now) (start .pre .0))
 
 sub-j : tie.Need-sub-j Inv-loop μ-loop

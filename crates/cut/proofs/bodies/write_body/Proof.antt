@@ -1,14 +1,14 @@
 -- `bodies::write_body` meets its contract: one of the block's own bodies, or the sum of them by the coefficients.
-use mathlib.Core.Path.{_≡_, sym, ap, _∙_}
+use mathlib.Core.Path.{sym, ap, _∙_}
 use mathlib.Core.List.{List}
 use Prim.Native.Nat.{ℕ}
-use lib.ListN.{length, drop, replicate}
-use lib.Seq.{length-take-le}
+use lib.ListN.{take, replicate}
 use native.Mathlib.Omega.{arith}
-use Rattle.algebra.proofs.Several.{listed-length}
+use Rattle.code.proofs.AtOnce.{coefficients-all}
+use Rattle.code.proofs.Rooms.{lent, back, back-count, back-within}
 use Rattle.code.proofs.Walks.{all-small}
 use Rattle.record.specs.Put.{put}
-use Rattle.cut.proofs.Sources.{own-body, zeros-of, back, back-room, back-count}
+use Rattle.cut.proofs.Sources.{own-body, zeros-of}
 use borrow.Author.Needs.{needs}
 use Rattle.cut.proofs.bodies.write_body.Statement.{statement}
 use Rattle.cut.proofs.bodies.write_body.Tie as tie
@@ -37,25 +37,35 @@ returns c =
 array-borrow-prefix-room : tie.Need-array-borrow-prefix-room
 array-borrow-prefix-room c = search needs
 
-slice-aggregate-coefficients : tie.Need-slice-aggregate-coefficients
-slice-aggregate-coefficients c = sym (length-take-le (c .before .before .before .before .before .before .before .before .before .before .args .m) (replicate 255 0) (omega arith))
+slice-aggregate-each-share : tie.Need-slice-aggregate-each-share
+slice-aggregate-each-share c = lent (c .before .before .before .before .before .before .before .before .before .before .args .m) (replicate 255 0) (omega arith)
 
-coefficients-requires : tie.Need-coefficients-requires
-coefficients-requires c κs =
-    let start = c .before .before .before .before .before .before .before .before .before .before in
-    (omega arith, (start .pre .1 .0, (start .pre .1 .1, length-take-le (start .args .m) (replicate 255 0) (omega arith))))
+each-share-requires : tie.Need-each-share-requires
+each-share-requires c κs = search needs
 
 array-share-prefix-room : tie.Need-array-share-prefix-room
-array-share-prefix-room c = back-room _ (c .before .before .coefficients .last .1 .1 .1 .1 .0) (drop (c .before .before .before .before .before .before .before .before .before .before .before .before .before .args .m) (replicate 255 0)) _ (c .before .before .coefficients .ensures) (listed-length _ _)
+array-share-prefix-room c =
+    let call = c .before .before in
+    let start = call .before .before .before .before .before .before .before .before .before .before .before in
+    back-within (start .args .m) (replicate 255 0) (omega arith) (call .each-share .last .1 .1 .1 .0) (call .each-share .kept .1 .1 .1 .0)
 
 slice-aggregate-add-all : tie.Need-slice-aggregate-add-all
-slice-aggregate-add-all c = back-count _ (c .before .before .before .coefficients .last .1 .1 .1 .1 .0) (drop (c .before .before .before .before .before .before .before .before .before .before .before .before .before .before .args .m) (replicate 255 0)) _ (c .before .before .before .coefficients .ensures) (listed-length _ _)
+slice-aggregate-add-all c =
+    let call = c .before .before .before in
+    let start = call .before .before .before .before .before .before .before .before .before .before .before in
+    back-count (start .args .m) (replicate 255 0) (omega arith) (call .each-share .last .1 .1 .1 .0) (call .each-share .kept .1 .1 .1 .0)
 
 add-all-requires : tie.Need-add-all-requires
 add-all-requires c κs =
-    let b8 = c .before .before .before .before .before .before .before .before in (
-      zeros-of (b8 .before .before .before .before .before .before .args .out .now) (b8 .clear .last .0) _ (b8 .clear .ensures) (b8 .before .before .before .before .before .before .pre .0),
-      back _ (c .before .before .before .coefficients .last .1 .1 .1 .1 .0) (drop (c .before .before .before .before .before .before .before .before .before .before .before .before .before .before .args .m) (replicate 255 0)) _ (c .before .before .before .coefficients .ensures) (listed-length _ _),
+    let call = c .before .before .before in
+    let b8 = call .before .before .before .before .before in
+    let start = b8 .before .before .before .before .before .before in
+    let a = start .args in
+    let part = call .each-share .last .1 .1 .1 .0 in (
+      zeros-of (a .out .now) (b8 .clear .last .0) _ (b8 .clear .ensures) (start .pre .0),
+      back (a .m) (replicate 255 0) (omega arith) part (call .each-share .kept .1 .1 .1 .0)
+          ∙ coefficients-all _ (omega arith) _ (start .fits .index .fits) (a .points .now) (a .spreads .now) (take (a .m) (replicate 255 0)) part
+          (start .pre .1 .0) (start .pre .1 .1) (sym (lent (a .m) (replicate 255 0) (omega arith))) (call .each-share .ensures),
     )
 
 same-length-2 : tie.Need-same-length-2
@@ -74,8 +84,8 @@ write-body-spec =
     same-length
     returns
     array-borrow-prefix-room
-    slice-aggregate-coefficients
-    coefficients-requires
+    slice-aggregate-each-share
+    each-share-requires
     array-share-prefix-room
     slice-aggregate-add-all
     add-all-requires

@@ -1,15 +1,14 @@
 -- `fragments::write_fragments` meets its contract: the points and their spreads once, then each record.
-use mathlib.Core.Path.{_≡_, sym, ap, _∙_}
+use mathlib.Core.Path.{refl, sym, ap, _∙_}
 use Prim.Native.Nat.{ℕ, _*_}
-use lib.ListN.{length, take, drop, replicate}
-use lib.Seq.{length-take-le}
+use lib.ListN.{length, take, replicate}
 use native.Mathlib.Omega.{arith}
-use Rattle.algebra.proofs.Several.{listed-length}
-use Rattle.code.proofs.Bodies.{points-length, points-prefix}
+use Rattle.code.proofs.AtOnce.{points-first, points-count, spread-all}
+use Rattle.code.proofs.Bodies.{points-length}
+use Rattle.code.proofs.Longest.{body-length-fits}
+use Rattle.code.proofs.Rooms.{lent, back, back-count, back-within}
 use Rattle.record.specs.Layout.{written-version, record-length}
 use Rattle.cut.proofs.Records.{fragments-of}
-use Rattle.code.proofs.Longest.{body-length-fits}
-use Rattle.cut.proofs.Sources.{back, back-room, back-count}
 use borrow.Author.Needs.{needs}
 use Rattle.cut.proofs.fragments.write_fragments.Statement.{statement}
 use Rattle.cut.proofs.fragments.write_fragments.Tie as tie
@@ -29,35 +28,56 @@ points-requires c κs = search needs
 array-share-prefix-points : tie.Need-array-share-prefix-points
 array-share-prefix-points c = omega (arith, ap length (c .points .ensures), points-length 255)
 
-slice-aggregate-spreads : tie.Need-slice-aggregate-spreads
-slice-aggregate-spreads c = sym (ap length (ap (take (c .before .before .before .before .before .args .m)) (c .before .points .ensures) ∙ points-prefix (c .before .before .before .before .before .args .m) 255 (omega arith)) ∙ points-length _)
+slice-aggregate-each-spread : tie.Need-slice-aggregate-each-spread
+slice-aggregate-each-spread c =
+    let all = c .before .points in
+    sym (points-count (c .before .before .before .before .before .args .m) 255 _ (all .result) (omega arith) refl (all .ensures))
 
 array-borrow-prefix-room : tie.Need-array-borrow-prefix-room
 array-borrow-prefix-room c = search needs
 
-slice-aggregate-spreads-2 : tie.Need-slice-aggregate-spreads-2
-slice-aggregate-spreads-2 c = sym (length-take-le (c .before .before .before .before .before .before .args .m) (replicate 255 0) (omega arith))
+slice-aggregate-each-spread-2 : tie.Need-slice-aggregate-each-spread-2
+slice-aggregate-each-spread-2 c = lent (c .before .before .before .before .before .before .args .m) (replicate 255 0) (omega arith)
 
-spreads-requires : tie.Need-spreads-requires
-spreads-requires c κs = length-take-le (c .before .before .before .before .before .before .args .m) (replicate 255 0) (omega arith)
+each-spread-requires : tie.Need-each-spread-requires
+each-spread-requires c κs = search needs
 
 array-share-prefix-points-2 : tie.Need-array-share-prefix-points-2
 array-share-prefix-points-2 c = omega (arith, ap length (c .before .before .before .before .points .ensures), points-length 255)
 
 slice-aggregate-write-each : tie.Need-slice-aggregate-write-each
-slice-aggregate-write-each c = sym (ap length (ap (take (c .before .before .before .before .before .before .before .before .before .args .m)) (c .before .before .before .before .before .points .ensures) ∙ points-prefix (c .before .before .before .before .before .before .before .before .before .args .m) 255 (omega arith)) ∙ points-length _)
+slice-aggregate-write-each c =
+    let b5 = c .before .before .before .before .before in
+    sym (points-count (b5 .before .before .before .before .args .m) 255 _ (b5 .points .result) (omega arith) refl (b5 .points .ensures))
 
 array-share-prefix-room : tie.Need-array-share-prefix-room
-array-share-prefix-room c = back-room _ (c .before .before .spreads .last .1 .1 .0) (drop (c .before .before .before .before .before .before .before .before .before .args .m) (replicate 255 0)) _ (c .before .before .spreads .ensures) (listed-length _ _)
+array-share-prefix-room c =
+    let call = c .before .before in
+    back-within (call .before .before .before .before .before .before .before .args .m) (replicate 255 0) (omega arith) (call .each-spread .last .1 .0) (call .each-spread .kept .1 .0)
 
 slice-aggregate-write-each-2 : tie.Need-slice-aggregate-write-each-2
-slice-aggregate-write-each-2 c = back-count _ (c .before .before .before .spreads .last .1 .1 .0) (drop (c .before .before .before .before .before .before .before .before .before .before .args .m) (replicate 255 0)) _ (c .before .before .before .spreads .ensures) (listed-length _ _)
+slice-aggregate-write-each-2 c =
+    let call = c .before .before .before in
+    back-count (call .before .before .before .before .before .before .before .args .m) (replicate 255 0) (omega arith) (call .each-spread .last .1 .0) (call .each-spread .kept .1 .0)
 
 write-each-requires : tie.Need-write-each-requires
 write-each-requires c κs =
-    let start = c .before .before .before .before .before .before .before .before .before .before .before in (
+    let call = c .before .before .before .before in
+    let start = call .before .before .before .before .before .before .before in
+    let b8 = call .before .before .before .before in
+    let m = start .args .m in
+    let all = call .before .before .before .points in
+    let part = call .each-spread .last .1 .0 in (
       start .pre .0 .1,
-      ((ap (take (c .before .before .before .before .before .before .before .before .before .before .before .args .m)) (c .before .before .before .before .before .before .before .points .ensures) ∙ points-prefix (c .before .before .before .before .before .before .before .before .before .before .before .args .m) 255 (omega arith)), (back _ (c .before .before .before .before .spreads .last .1 .1 .0) (drop (c .before .before .before .before .before .before .before .before .before .before .before .args .m) (replicate 255 0)) _ (c .before .before .before .before .spreads .ensures) (listed-length _ _), start .pre .1 ∙ sym (ap (λ (F : ℕ). start .args .n * record-length written-version F) (c .before .before .before .before .before .before .before .before .body-length .ensures)))),
+      (
+        points-first m 255 m (all .result) (omega arith) refl (all .ensures),
+        (
+          back m (replicate 255 0) (omega arith) part (call .each-spread .kept .1 .0)
+              ∙ spread-all (take m (all .result)) (take m (replicate 255 0)) part
+              (sym (lent m (replicate 255 0) (omega arith)) ∙ sym (points-count m 255 m (all .result) (omega arith) refl (all .ensures))) (call .each-spread .ensures),
+          start .pre .1 ∙ sym (ap (λ (F : ℕ). start .args .n * record-length written-version F) (b8 .body-length .ensures)),
+        ),
+      ),
     )
 
 same-length : tie.Need-same-length
@@ -75,10 +95,10 @@ write-fragments-spec =
     cast-size
     points-requires
     array-share-prefix-points
-    slice-aggregate-spreads
+    slice-aggregate-each-spread
     array-borrow-prefix-room
-    slice-aggregate-spreads-2
-    spreads-requires
+    slice-aggregate-each-spread-2
+    each-spread-requires
     array-share-prefix-points-2
     slice-aggregate-write-each
     array-share-prefix-room
