@@ -1,30 +1,26 @@
 -- Which text is told: each refusal, and the lines of a cut that is not refused.
-use mathlib.Core.Path.{_≡_, refl, sym, ap, ap₂, _∙_}
+use mathlib.Core.Path.{_≡_, sym, ap, ap₂, _∙_}
 use mathlib.Core.Bool.{Bool, _&&_, cond}
 use mathlib.Core.List.{List, _++_}
 use Prim.Native.Nat.{ℕ, _+_, _-_, _*_, _^_, _<_, _≤_}
 use native.Mathlib.Nat.{zero-add}
-use native.Mathlib.Omega.{arith}
 use borrow.Author.Tests.{lt-ltb, le-ltb, eq-eqb, ne-eqb}
 use borrow.Rule.Slice.PartMut.{midOf}
 use lib.Dec.{eqb, leb, lit<}
-use lib.ListN.{length, drop, getD, replicate, length-replicate}
+use lib.ListN.{length, drop, getD, length-replicate}
 use Rattle.limits.specs.Limits.{longest-block, largest-seed}
 use Rattle.algebra.specs.Several.{listed, end-to-end}
 use Rattle.algebra.proofs.Several.{listed-same}
 use Rattle.column.specs.Column.{from-seed}
 use Rattle.code.specs.Cutting.{body-length}
 use Rattle.fingerprint.specs.Fingerprint.{fingerprint-at}
-use Rattle.record.specs.declared.CheckHead.{CheckHead}
 use Rattle.record.specs.Layout.{number-at, written-version, check-length, record-length}
 use Rattle.record.specs.Records.{check-record}
 use Rattle.record.specs.Heads.{check-head-of, counts-fit}
 use Rattle.record.proofs.Buffer.{rest-lent}
 use Rattle.record.proofs.ReadBack.{check-back}
-use Rattle.cut.specs.Cut.{body-of, body-among, fragments, check-of, check, buffers-fit, cut-number, held}
+use Rattle.cut.specs.Cut.{body-of, fragments, check-of, check, buffers-fit, cut-number, held}
 use Rattle.cut.proofs.Records.{body-back}
-use Rattle.join.specs.declared.Joined.{Joined}
-use Rattle.join.specs.Join.{join-answer}
 use Rattle.tell.specs.Lines.{refusal-line, check-line, fragment-line, join-line}
 use Rattle.tell.specs.Parts.{placed, print-among, fragment-lines, head-line, answer-line, shown}
 use Rattle.tell.specs.Told.{cut-refusal, joined, lines, told, printed}

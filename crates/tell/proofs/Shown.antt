@@ -1,6 +1,6 @@
 -- What is told of a cut's records: how long each line is, the lines one after the other, and that they are those of the definition.
 use mathlib.Core.Path.{_≡_, refl, sym, ap, ap₂, subst, _∙_}
-use mathlib.Core.List.{List, [], _∷_, _++_, map, append-assoc}
+use mathlib.Core.List.{List, [], _∷_, _++_, map}
 use Prim.Native.Nat.{ℕ, zero, suc, _+_, _-_, _*_, _/_, _%_, _<_, _≤_}
 use native.Mathlib.Nat.{mul-mod-right, not-suc-le-zero, le-of-suc-le-suc}
 use native.Mathlib.Numerals.{add-one}
@@ -14,10 +14,8 @@ use Rattle.algebra.specs.Several.{listed, end-to-end}
 use Rattle.algebra.proofs.Several.{end-to-end-more}
 use Rattle.code.specs.Cutting.{body-length}
 use Rattle.column.specs.declared.Column.{Column}
-use Rattle.column.specs.Column.{from-seed}
 use Rattle.fingerprint.specs.declared.Fingerprinted.{Fingerprinted}
 use Rattle.fingerprint.specs.Answer.{fingerprinted}
-use Rattle.fingerprint.specs.Fingerprint.{fingerprint-at}
 use Rattle.cut.specs.Cut.{body-among}
 use Rattle.cut.proofs.Among.{among-part}
 use Rattle.join.specs.declared.Joined.{Joined}
@@ -26,7 +24,7 @@ use Rattle.record.specs.declared.CheckHead.{CheckHead}
 use Rattle.record.specs.Heads.{check-head-of}
 use Rattle.record.proofs.Buffer.{rest-lent}
 use Rattle.record.specs.Layout.{written-version, record-length, body-place, check-mark, fragment-mark}
-use Rattle.tell.specs.Lines.{decimal, hex, fields, line, join-mark, check-line, fragment-line, join-line}
+use Rattle.tell.specs.Lines.{decimal, hex, line, join-mark, check-line, fragment-line, join-line}
 use Rattle.tell.specs.Parts.{placed, print-among, fragment-lines, head-line, answer-line, shown}
 use Rattle.tell.proofs.Adding.{Grown, grown-none, grown-more}
 use Rattle.tell.proofs.Decimals.{spelled, spelled-length}

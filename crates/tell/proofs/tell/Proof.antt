@@ -3,9 +3,6 @@ use Rattle.tell.proofs.Choice.{at-start}
 use borrow.Author.Needs.{needs}
 use Rattle.tell.proofs.tell.Statement.{statement}
 use Rattle.tell.proofs.tell.Tie as tie
-use Rattle.tell.proofs.tell.Reads as reads
-use Rattle.tell.proofs.tell.Lts as lts
-use Rattle.tell.proofs.tell_within.Reads as tell-within-reads
 
 tell-within-requires : tie.Need-tell-within-requires
 tell-within-requires c κs = search needs

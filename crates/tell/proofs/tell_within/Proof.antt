@@ -8,12 +8,6 @@ use Rattle.tell.proofs.Choice.{printed-short, printed-long, printed-tol
 use borrow.Author.Needs.{needs}
 use Rattle.tell.proofs.tell_within.Statement.{statement}
 use Rattle.tell.proofs.tell_within.Tie as tie
-use Rattle.tell.proofs.tell_within.Reads as reads
-use Rattle.tell.proofs.tell_within.Lts as lts
-use Rattle.tell.proofs.cutting.cut_and_tell.Reads as cut-and-tell-reads
-use Rattle.tell.proofs.lines.add_refusal.Reads as add-refusal-reads
-use Rattle.tell.proofs.number_of.Reads as number-of-reads
-use Rattle.tell.proofs.seed_of.Reads as seed-of-reads
 
 add-refusal-requires : tie.Need-add-refusal-requires
 add-refusal-requires c κs = search needs

@@ -7,12 +7,6 @@ use Rattle.tell.proofs.Room.{body-short, records-fit, records-are, chec
 use borrow.Author.Needs.{needs}
 use Rattle.tell.proofs.cutting.cut_and_tell.Statement.{statement}
 use Rattle.tell.proofs.cutting.cut_and_tell.Tie as tie
-use Rattle.tell.proofs.cutting.cut_and_tell.Reads as reads
-use Rattle.tell.proofs.cutting.cut_and_tell.Lts as lts
-use Rattle.code.proofs.body_length.Reads as body-length-reads
-use Rattle.record.proofs.check_length.Reads as check-length-reads
-use Rattle.record.proofs.record_length.Reads as record-length-reads
-use Rattle.tell.proofs.cutting.cut_within.Reads as cut-within-reads
 
 cast-body-length : tie.Need-cast-body-length
 cast-body-length c = search needs

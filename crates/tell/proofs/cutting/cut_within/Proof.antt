@@ -1,5 +1,5 @@
 -- `cutting::cut_within` meets its contract: the cut's refusal, or the lines of what it wrote.
-use mathlib.Core.Path.{_≡_, sym, ap, _∙_}
+use mathlib.Core.Path.{sym, ap, _∙_}
 use native.Mathlib.Nat.{zero-add}
 use native.Mathlib.Omega.{arith}
 use lib.ListN.{length}
@@ -9,11 +9,6 @@ use Rattle.tell.proofs.Choice.{refused-is, written, told-refused, told-
 use borrow.Author.Needs.{needs}
 use Rattle.tell.proofs.cutting.cut_within.Statement.{statement}
 use Rattle.tell.proofs.cutting.cut_within.Tie as tie
-use Rattle.tell.proofs.cutting.cut_within.Reads as reads
-use Rattle.tell.proofs.cutting.cut_within.Lts as lts
-use Rattle.cut.proofs.cut.Reads as cut-reads
-use Rattle.tell.proofs.lines.add_refusal.Reads as add-refusal-reads
-use Rattle.tell.proofs.records.add_all.Reads as add-all-reads
 
 cut-requires : tie.Need-cut-requires
 cut-requires c κs = search needs

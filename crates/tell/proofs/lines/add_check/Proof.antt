@@ -3,9 +3,6 @@ use Rattle.tell.specs.Lines.{line, check-line}
 use borrow.Author.Needs.{needs}
 use Rattle.tell.proofs.lines.add_check.Statement.{statement}
 use Rattle.tell.proofs.lines.add_check.Tie as tie
-use Rattle.tell.proofs.lines.add_check.Reads as reads
-use Rattle.tell.proofs.lines.add_check.Lts as lts
-use Rattle.tell.proofs.text.add_line.Reads as add-line-reads
 
 cast-t6 : tie.Need-cast-t6
 cast-t6 c = search needs

@@ -8,10 +8,6 @@ use Rattle.tell.proofs.Hexadecimal.{fragment-whole}
 use borrow.Author.Needs.{needs}
 use Rattle.tell.proofs.lines.add_fragment.Statement.{statement}
 use Rattle.tell.proofs.lines.add_fragment.Tie as tie
-use Rattle.tell.proofs.lines.add_fragment.Reads as reads
-use Rattle.tell.proofs.lines.add_fragment.Lts as lts
-use Rattle.tell.proofs.lines.in_hexadecimal.Reads as in-hexadecimal-reads
-use Rattle.tell.proofs.text.add_line.Reads as add-line-reads
 
 slice-aggregate-add-line : tie.Need-slice-aggregate-add-line
 slice-aggregate-add-line c = search needs

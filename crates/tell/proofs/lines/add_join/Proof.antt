@@ -3,9 +3,6 @@ use Rattle.tell.specs.Lines.{line, join-line}
 use borrow.Author.Needs.{needs}
 use Rattle.tell.proofs.lines.add_join.Statement.{statement}
 use Rattle.tell.proofs.lines.add_join.Tie as tie
-use Rattle.tell.proofs.lines.add_join.Reads as reads
-use Rattle.tell.proofs.lines.add_join.Lts as lts
-use Rattle.tell.proofs.text.add_line.Reads as add-line-reads
 
 cast-t7 : tie.Need-cast-t7
 cast-t7 c = search needs

@@ -3,9 +3,6 @@ use Rattle.tell.specs.Lines.{line, refusal-line}
 use borrow.Author.Needs.{needs}
 use Rattle.tell.proofs.lines.add_refusal.Statement.{statement}
 use Rattle.tell.proofs.lines.add_refusal.Tie as tie
-use Rattle.tell.proofs.lines.add_refusal.Reads as reads
-use Rattle.tell.proofs.lines.add_refusal.Lts as lts
-use Rattle.tell.proofs.text.add_line.Reads as add-line-reads
 
 slice-aggregate-add-line : tie.Need-slice-aggregate-add-line
 slice-aggregate-add-line c = search needs

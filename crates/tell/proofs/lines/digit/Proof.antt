@@ -4,8 +4,6 @@ use Rattle.tell.proofs.Hexadecimal.{low, high}
 use borrow.Author.Needs.{needs}
 use Rattle.tell.proofs.lines.digit.Statement.{statement}
 use Rattle.tell.proofs.lines.digit.Tie as tie
-use Rattle.tell.proofs.lines.digit.Reads as reads
-use Rattle.tell.proofs.lines.digit.Lts as lts
 
 add-result : tie.Need-add-result
 add-result c = search needs

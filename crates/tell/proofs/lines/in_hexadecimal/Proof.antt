@@ -3,9 +3,6 @@ use Rattle.tell.proofs.Hexadecimal.{spelled}
 use borrow.Author.Needs.{needs}
 use Rattle.tell.proofs.lines.in_hexadecimal.Statement.{statement}
 use Rattle.tell.proofs.lines.in_hexadecimal.Tie as tie
-use Rattle.tell.proofs.lines.in_hexadecimal.Reads as reads
-use Rattle.tell.proofs.lines.in_hexadecimal.Lts as lts
-use Rattle.tell.proofs.lines.digit.Reads as digit-reads
 
 digit-requires : tie.Need-digit-requires
 digit-requires c κs = search needs

@@ -1,26 +1,19 @@
 -- `records::add_all` meets its contract: the check record, the fragments, the join.
-use mathlib.Core.Path.{_≡_, sym, ap, _∙_}
+use mathlib.Core.Path.{sym, ap, _∙_}
 use mathlib.Core.List.{List}
-use Prim.Native.Nat.{ℕ, _+_, _-_, _*_, _%_}
+use Prim.Native.Nat.{ℕ, _-_, _*_, _%_}
 use native.Mathlib.Nat.{zero-add}
 use native.Mathlib.Omega.{arith}
 use borrow.Rule.Slice.PartMut.{midOf}
 use lib.ListN.{length}
 use Rattle.record.specs.Layout.{written-version, record-length}
 use Rattle.tell.specs.Parts.{placed, head-line, fragment-lines, answer-line}
-use Rattle.tell.proofs.Adding.{Grown, grown-three}
+use Rattle.tell.proofs.Adding.{grown-three}
 use Rattle.tell.proofs.Room.{body-short, before, records-are}
 use Rattle.tell.proofs.Shown.{columns-whole, head-short, answer-short, lines-short, shown-is}
 use borrow.Author.Needs.{needs}
 use Rattle.tell.proofs.records.add_all.Statement.{statement}
 use Rattle.tell.proofs.records.add_all.Tie as tie
-use Rattle.tell.proofs.records.add_all.Reads as reads
-use Rattle.tell.proofs.records.add_all.Lts as lts
-use Rattle.code.proofs.body_length.Reads as body-length-reads
-use Rattle.record.proofs.record_length.Reads as record-length-reads
-use Rattle.tell.proofs.records.add_answer.Reads as add-answer-reads
-use Rattle.tell.proofs.records.add_fragments.Reads as add-fragments-reads
-use Rattle.tell.proofs.records.add_head.Reads as add-head-reads
 
 add-head-requires : tie.Need-add-head-requires
 add-head-requires c κs = search needs

@@ -10,10 +10,6 @@ use Rattle.tell.proofs.Shown.{answer-is}
 use borrow.Author.Needs.{needs}
 use Rattle.tell.proofs.records.add_answer.Statement.{statement}
 use Rattle.tell.proofs.records.add_answer.Tie as tie
-use Rattle.tell.proofs.records.add_answer.Reads as reads
-use Rattle.tell.proofs.records.add_answer.Lts as lts
-use Rattle.join.proofs.join.Reads as join-reads
-use Rattle.tell.proofs.lines.add_join.Reads as add-join-reads
 
 array-borrow-prefix-out : tie.Need-array-borrow-prefix-out
 array-borrow-prefix-out c = search needs

@@ -12,10 +12,6 @@ use Rattle.tell.proofs.Shown.{lines-none, lines-next, lines-short}
 use borrow.Author.Needs.{needs}
 use Rattle.tell.proofs.records.add_fragments.Statement.{statement}
 use Rattle.tell.proofs.records.add_fragments.Tie as tie
-use Rattle.tell.proofs.records.add_fragments.Reads as reads
-use Rattle.tell.proofs.records.add_fragments.Lts as lts
-use Rattle.tell.proofs.lines.add_fragment.Reads as add-fragment-reads
-use Rattle.tell.proofs.records.print_among.Reads as print-among-reads
 
 abbrev Inv-loop : tie.InvT-loop
 Inv-loop text₀ at n size seed fragments end₀ index₀ text end index = (index ≤ n) × Grown text₀ at (fragment-lines index size seed fragments) text end

@@ -8,10 +8,6 @@ use Rattle.tell.proofs.Shown.{head-is}
 use borrow.Author.Needs.{needs}
 use Rattle.tell.proofs.records.add_head.Statement.{statement}
 use Rattle.tell.proofs.records.add_head.Tie as tie
-use Rattle.tell.proofs.records.add_head.Reads as reads
-use Rattle.tell.proofs.records.add_head.Lts as lts
-use Rattle.record.proofs.read_check.Reads as read-check-reads
-use Rattle.tell.proofs.lines.add_check.Reads as add-check-reads
 
 read-check-requires : tie.Need-read-check-requires
 read-check-requires c κs = search needs

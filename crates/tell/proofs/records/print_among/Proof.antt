@@ -6,11 +6,6 @@ use Rattle.tell.proofs.Shown.{print-is}
 use borrow.Author.Needs.{needs}
 use Rattle.tell.proofs.records.print_among.Statement.{statement}
 use Rattle.tell.proofs.records.print_among.Tie as tie
-use Rattle.tell.proofs.records.print_among.Reads as reads
-use Rattle.tell.proofs.records.print_among.Lts as lts
-use Rattle.fingerprint.proofs.fingerprint.Reads as fingerprint-reads
-use Rattle.record.proofs.body_place.Reads as body-place-reads
-use Rattle.record.proofs.record_length.Reads as record-length-reads
 
 record-length-requires : tie.Need-record-length-requires
 record-length-requires c κs = search needs

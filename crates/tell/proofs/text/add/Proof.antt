@@ -4,9 +4,6 @@ use Rattle.tell.proofs.Adding.{put-placed}
 use borrow.Author.Needs.{needs}
 use Rattle.tell.proofs.text.add.Statement.{statement}
 use Rattle.tell.proofs.text.add.Tie as tie
-use Rattle.tell.proofs.text.add.Reads as reads
-use Rattle.tell.proofs.text.add.Lts as lts
-use Rattle.record.proofs.put.Reads as put-reads
 
 sub-put : tie.Need-sub-put
 sub-put c = search needs

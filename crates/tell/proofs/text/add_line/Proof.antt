@@ -1,14 +1,10 @@
 -- `text::add_line` meets its contract: the mark, the numbers, the ending.
 use native.Mathlib.Omega.{arith}
-use Rattle.tell.proofs.Adding.{Grown, grown-three}
+use Rattle.tell.proofs.Adding.{grown-three}
 use Rattle.tell.proofs.Decimals.{spelled, spelled-length}
 use borrow.Author.Needs.{needs}
 use Rattle.tell.proofs.text.add_line.Statement.{statement}
 use Rattle.tell.proofs.text.add_line.Tie as tie
-use Rattle.tell.proofs.text.add_line.Reads as reads
-use Rattle.tell.proofs.text.add_line.Lts as lts
-use Rattle.tell.proofs.text.add.Reads as add-reads
-use Rattle.tell.proofs.text.add_numbers.Reads as add-numbers-reads
 
 slice-aggregate-add : tie.Need-slice-aggregate-add
 slice-aggregate-add c = search needs

@@ -6,15 +6,11 @@ use native.Mathlib.Omega.{arith}
 use lib.ListN.{length}
 use Rattle.tell.specs.Lines.{decimal}
 use Rattle.tell.specs.Parts.{placed}
-use Rattle.tell.proofs.Adding.{Grown, grown-one, grown-more}
+use Rattle.tell.proofs.Adding.{grown-one, grown-more}
 use Rattle.tell.proofs.Decimals.{few, decimal-is, decimal-short}
 use borrow.Author.Needs.{needs}
 use Rattle.tell.proofs.text.add_number.Statement.{statement}
 use Rattle.tell.proofs.text.add_number.Tie as tie
-use Rattle.tell.proofs.text.add_number.Reads as reads
-use Rattle.tell.proofs.text.add_number.Lts as lts
-use Rattle.io.proofs.decimal.Reads as decimal-reads
-use Rattle.tell.proofs.text.add.Reads as add-reads
 
 decimal-requires : tie.Need-decimal-requires
 decimal-requires c κs = search needs

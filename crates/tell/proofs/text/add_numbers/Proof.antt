@@ -10,9 +10,6 @@ use Rattle.tell.proofs.Decimals.{spelled, spelled-short, spelled-all, g
 use borrow.Author.Needs.{needs}
 use Rattle.tell.proofs.text.add_numbers.Statement.{statement}
 use Rattle.tell.proofs.text.add_numbers.Tie as tie
-use Rattle.tell.proofs.text.add_numbers.Reads as reads
-use Rattle.tell.proofs.text.add_numbers.Lts as lts
-use Rattle.tell.proofs.text.add_number.Reads as add-number-reads
 
 abbrev Inv-loop : tie.InvT-loop
 Inv-loop text₀ at numbers end₀ k₀ text end k = (k ≤ length numbers) × Grown text₀ at (spelled (take k numbers)) text end
