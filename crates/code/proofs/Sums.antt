@@ -1,14 +1,16 @@
--- A multiple of a body added to a sum: what becomes of each byte, and the loop that does it.
+-- A sum with no body yet, and a multiple of a body added to it: what becomes of each byte, and the loops that do it.
 use mathlib.Core.Path.{_≡_, refl, sym, ap, ap₂, _∙_}
-use mathlib.Core.List.{List, [], _∷_, _++_}
+use mathlib.Core.List.{List, [], _∷_, _++_, append-nil}
 use Prim.Native.Nat.{ℕ, zero, suc, _+_, _<_, _≤_, min}
 use native.Mathlib.Nat.{not-suc-le-zero, le-of-suc-le-suc}
 use native.Mathlib.Numerals.{add-one}
 use native.Mathlib.Omega.{arith}
 use lib.Bits.{bitXor}
-use lib.ListN.{length, getD, take, drop, set, length-set, length-drop, take-append-drop}
+use lib.ListN.{length, getD, take, drop, replicate, set, length-set, length-drop, drop-of-length-le, take-append-drop}
 use lib.Seq.{drop-cons, take-suc-set, drop-set-lt, append-snoc}
 use Rattle.field.specs.Byte.{plus, times, products}
+use Rattle.field.proofs.Sum.{plus-none}
+use Rattle.field.proofs.Product.{times-none}
 use Rattle.field.proofs.Rows.{products-at}
 use Rattle.code.specs.Adding.{added}
 use Rattle.code.proofs.Plain.{Small}
@@ -19,13 +21,20 @@ added-length by [] body = refl
 added-length by (s ∷ sum) [] = refl
 added-length by (s ∷ sum) (b ∷ body) = ap suc (added-length by sum body)
 
-pub added-at : (by : ℕ) (sum body : List ℕ) (k : ℕ) → k < length sum → k < length body
-    → getD (added by sum body) k 0 ≡ plus (getD sum k 0) (times by (getD body k 0))
+-- past the body's end nothing is added
+pub added-at : (by : ℕ) (sum body : List ℕ) (k : ℕ) → k < length sum → getD (added by sum body) k 0 ≡ plus (getD sum k 0) (times by (getD body k 0))
 unfolding added
-added-at by [] body k hs hb = absurd (not-suc-le-zero hs)
-added-at by (s ∷ sum) [] k hs hb = absurd (not-suc-le-zero hb)
-added-at by (s ∷ sum) (b ∷ body) zero hs hb = refl
-added-at by (s ∷ sum) (b ∷ body) (suc k) hs hb = added-at by sum body k (le-of-suc-le-suc hs) (le-of-suc-le-suc hb)
+added-at by [] body k h = absurd (not-suc-le-zero h)
+added-at by (s ∷ sum) [] k h = sym (ap (plus (getD (s ∷ sum) k 0)) (times-none by) ∙ plus-none (getD (s ∷ sum) k 0))
+added-at by (s ∷ sum) (b ∷ body) zero h = refl
+added-at by (s ∷ sum) (b ∷ body) (suc k) h = added-at by sum body k (le-of-suc-le-suc h)
+
+-- a buffer filled with zero bytes to its end
+pub cleared : (before out : List ℕ) (k : ℕ) → k ≡ length before → out ≡ replicate k 0 ++ drop k before → out ≡ replicate (length before) 0
+cleared before out k e h =
+    h ∙ ap (λ (n : ℕ). replicate n 0 ++ drop n before) e
+    ∙ ap (λ (l : List ℕ). replicate (length before) 0 ++ l) (drop-of-length-le before {i = length before} (omega arith))
+    ∙ append-nil (replicate (length before) 0)
 
 -- of the sum, the first k bytes are done
 pub record Adding (by : ℕ) (sum₀ body : List ℕ) (k : ℕ) (sum : List ℕ) : Type 0 where

@@ -4,6 +4,7 @@ mod weights;
 
 ghost use mathlib.Core.Path.{_≡_};
 ghost use Prim.Native.Nat.{min};
+ghost use lib.ListN.{length, replicate};
 ghost use Rattle.algebra.specs.Polynomial as polynomial;
 ghost use Rattle.field.specs.Byte.{bytes, inverse};
 ghost use Rattle.code.specs.Cutting as cutting;
@@ -67,6 +68,17 @@ pub fn coefficient(m: u8, i: u8, j: u8) -> u8
     let all = points();
     let count = wide(m);
     weight(&all[..count], j, i)
+}
+
+// The sum of no body: zero bytes.
+pub fn clear(sum: &mut [u8])
+    ensures { λ r. ⌜ now (sum .exit) ≡ replicate (length (now (sum .entry))) 0 ⌝ }
+{
+    let mut k = 0;
+    while k < sum.len() {
+        sum[k] = 0;
+        k += 1;
+    }
 }
 
 // Adds `by` times the body to the sum, byte by byte, as far as both go.

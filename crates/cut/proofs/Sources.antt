@@ -18,7 +18,7 @@ use Rattle.code.specs.Adding.{added}
 use Rattle.code.specs.Cutting.{points, source, byte-of, body, coefficient-of}
 use Rattle.code.proofs.Plain.{Small}
 use Rattle.code.proofs.Bodies.{byte-own, byte-combined, points-length}
-use Rattle.code.proofs.Sums.{added-length}
+use Rattle.code.proofs.Sums.{added-length, added-at}
 use Rattle.code.proofs.Walks.{listed-all, dropped}
 use Rattle.record.specs.Put.{put}
 use Rattle.record.proofs.Buffer.{put-fits}
@@ -60,13 +60,6 @@ zeros-at zero k = refl
 zeros-at (suc n) zero = refl
 zeros-at (suc n) (suc k) = zeros-at n k
 
--- a buffer filled with zero bytes to its end
-pub cleared : (before out : List ℕ) (k : ℕ) → k ≡ length before → out ≡ replicate k 0 ++ drop k before → out ≡ replicate (length before) 0
-cleared before out k e h =
-    h ∙ ap (λ (n : ℕ). replicate n 0 ++ drop n before) e
-    ∙ ap (λ (l : List ℕ). replicate (length before) 0 ++ l) (drop-of-length-le before {i = length before} (omega arith))
-    ∙ append-nil (replicate (length before) 0)
-
 -- where the buffer is known to be n bytes long
 pub zeros-of : (before out : List ℕ) (n : ℕ) → out ≡ replicate (length before) 0 → length before ≡ n → out ≡ replicate n 0
 zeros-of before out n e h = e ∙ ap (λ (k : ℕ). replicate k 0) h
@@ -76,14 +69,6 @@ padded-at : (a z : List ℕ) → ((q : ℕ) → getD z q 0 ≡ 0) → (p : ℕ) 
 padded-at [] z h p = h p
 padded-at (x ∷ a) z h zero = refl
 padded-at (x ∷ a) z h (suc p) = padded-at a z h p
-
--- what is added reads as zero past its end
-added-at : (by : ℕ) (sum body : List ℕ) (k : ℕ) → k < length sum → getD (added by sum body) k 0 ≡ plus (getD sum k 0) (times by (getD body k 0))
-unfolding added
-added-at by [] body k h = absurd (not-suc-le-zero h)
-added-at by (s ∷ sum) [] k h = sym (ap (plus (getD (s ∷ sum) k 0)) (times-none by) ∙ plus-none (getD (s ∷ sum) k 0))
-added-at by (s ∷ sum) (b ∷ body) zero h = refl
-added-at by (s ∷ sum) (b ∷ body) (suc k) h = added-at by sum body k (le-of-suc-le-suc h)
 
 module _ (m F : ℕ) (block : List ℕ) where
   -- a body whose bytes are all there

@@ -22,7 +22,7 @@ pub(crate) fn write_body(
     requires { ⌜ now spreads ≡ map (weights.spread bytes (now points)) (now points) ⌝ }
     ensures { λ r. ⌜ now (out .exit) ≡ cutting.body m size (now (block .entry)) index ⌝ }
 {
-    clear(out);
+    code::clear(out);
     if index < m {
         record::put(out, own(size, index, block));
         return;
@@ -31,16 +31,6 @@ pub(crate) fn write_body(
     let count = m as usize;
     code::each_share(points, spreads, index, &mut room[..count]);
     add_all(out, m, size, index, block, &room[..count]);
-}
-
-fn clear(out: &mut [u8])
-    ensures { λ r. ⌜ now (out .exit) ≡ replicate (length (now (out .entry))) 0 ⌝ }
-{
-    let mut k = 0;
-    while k < out.len() {
-        out[k] = 0;
-        k += 1;
-    }
 }
 
 // Adds each of the block's own bodies, scaled by its coefficient in body `index`, to zero bytes.

@@ -17,13 +17,6 @@ use Rattle.code.proofs.Shares.{in-at}
 use Rattle.code.proofs.Sums.{added-length, added-at}
 use Rattle.code.proofs.Walks.{dropped}
 
--- a buffer filled with zero bytes to its end
-pub cleared : (before out : List ℕ) (k : ℕ) → k ≡ length before → out ≡ replicate k 0 ++ drop k before → out ≡ replicate (length before) 0
-cleared before out k e h =
-    h ∙ ap (λ (n : ℕ). replicate n 0 ++ drop n before) e
-    ∙ ap (λ (l : List ℕ). replicate (length before) 0 ++ l) (drop-of-length-le before {i = length before} (omega arith))
-    ∙ append-nil (replicate (length before) 0)
-
 -- of n bytes, each is the sum over the places from k on of what f p has there, by their coefficients
 pub record Summed (by places : List ℕ) (n : ℕ) (f : ℕ → ℕ → ℕ) (k : ℕ) (out : List ℕ) : Type 0 where
   pub long : length out ≡ n
@@ -63,7 +56,7 @@ module _ (by places : List ℕ) (many : length by ≡ length places) (n : ℕ) (
         record {
           long = ap length e ∙ added-length _ out part ∙ S .long;
           at = λ p h. ap (λ (l : List ℕ). getD l p 0) e
-              ∙ added-at _ out part p (omega (arith, S .long)) (omega arith)
+              ∙ added-at _ out part p (omega (arith, S .long))
               ∙ ap₂ (λ (x y : ℕ). plus x (times (getD by (k - 1) 0) y)) (S .at p h) (has p h)
               ∙ plus-comm _ _
               ∙ one-more p;

@@ -21,18 +21,8 @@ pub(crate) fn regain(
     requires { ⌜ All (λ k. k * stride + stride ≤ length (now records)) (now places) ⌝ }
     ensures { λ r. ⌜ now (out .exit) ≡ listed (length (now (out .entry))) (λ p. combined (itself bytes) (now (by .entry)) (map (λ k. getD (now (records .entry)) (k * stride + (at + p)) 0) (now (places .entry)))) ⌝ }
 {
-    clear(out);
+    code::clear(out);
     add_parts(out, records, stride, places, at, by);
-}
-
-fn clear(out: &mut [u8])
-    ensures { λ r. ⌜ now (out .exit) ≡ replicate (length (now (out .entry))) 0 ⌝ }
-{
-    let mut k = 0;
-    while k < out.len() {
-        out[k] = 0;
-        k += 1;
-    }
 }
 
 // Adds the parts to zero bytes. What counts nothing is passed over, so that a body at hand costs one copy.

@@ -20,10 +20,6 @@ body-short L (suc m) h =
 pub records-short : (n size : ℕ) → n < 256 → size ≤ 531 → n * size ≤ 135405
 records-short n size hn hs = omega (arith, mul-le-mul-right size (let h : n ≤ 255 = omega arith in h))
 
--- part k of n lies within them
-pub within : (n k size : ℕ) → k < n → k * size + size ≤ n * size
-within n k size h = omega (arith, suc-mul k size, mul-le-mul-right size h)
-
 -- what is left out of the first parts ends before them all
 pub before : (n m size : ℕ) → (n - m) * size ≤ n * size
 before n m size = mul-le-mul-right size (let h : n - m ≤ n = omega arith in h)

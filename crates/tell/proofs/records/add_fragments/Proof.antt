@@ -7,7 +7,7 @@ use lib.ListN.{length}
 use Rattle.record.specs.Layout.{written-version, record-length}
 use Rattle.tell.specs.Parts.{placed, fragment-lines}
 use Rattle.tell.proofs.Adding.{Grown}
-use Rattle.tell.proofs.Room.{within}
+use Rattle.cut.proofs.Filling.{within}
 use Rattle.tell.proofs.Shown.{lines-none, lines-next, lines-short}
 use borrow.Author.Needs.{needs}
 use Rattle.tell.proofs.records.add_fragments.Statement.{statement}
@@ -25,7 +25,7 @@ loop-holds c = let a = c .before .before .args in
 
 print-among-requires : tie.Need-print-among-requires Inv-loop μ-loop
 print-among-requires c κs = let a = c .before .before .before .before .args in
-    (c .before .before .before .before .pre .1 .0, omega (arith, within (a .n) (c .before .loop .index) (record-length written-version (a .size)) (omega arith), c .before .before .before .before .pre .1 .1))
+    (c .before .before .before .before .pre .1 .0, omega (arith, within (record-length written-version (a .size)) (a .n) (c .before .loop .index) (omega arith), c .before .before .before .before .pre .1 .1))
 
 add-fragment-requires : tie.Need-add-fragment-requires Inv-loop μ-loop
 add-fragment-requires c κs = let a = c .before .before .before .before .before .before .args in
