@@ -1,5 +1,5 @@
-//! SHA-256 with a schedule of sixteen words in a ring, the functions by other identities than the standard's (its rotations are
-//! made one out of the other), and the constants computed from the primes' roots.
+//! SHA-256 as the standard writes it down: all 64 words of the schedule first, then the turns, each function by the standard's own
+//! formula; and the constants computed from the primes' roots.
 
 fn is_prime(n: u64) -> bool {
     n >= 2 && (2..n).take_while(|d| d * d <= n).all(|d| n % d != 0)
@@ -20,30 +20,36 @@ fn root_fraction(n: u64, k: u32) -> u32 {
     r as u32
 }
 
-/// x, and x rotated further by each count: 2, 13 and 22 are 2, 11 more, and 9 more.
-fn rotations(x: u32, [first, second, third]: [u32; 3]) -> u32 {
-    ((x.rotate_right(third) ^ x).rotate_right(second) ^ x).rotate_right(first)
+/// The exclusive or of x rotated by each count.
+fn rotations(x: u32, counts: [u32; 3]) -> u32 {
+    counts.iter().fold(0, |sum, &n| sum ^ x.rotate_right(n))
 }
 
-/// Word t of the schedule, over the word of the ring that is 16 old.
-fn next_word(ring: &[u32; 16], t: usize) -> u32 {
-    let back = |k: usize| ring[(t + 16 - k) % 16];
-    let (x, y) = (back(15), back(2));
-    let s0 = (x ^ x.rotate_right(11)).rotate_right(7) ^ (x >> 3);
-    let s1 = (y ^ y.rotate_right(2)).rotate_right(17) ^ (y >> 10);
-    let sum = back(16).wrapping_add(s0);
-    sum.wrapping_add(back(7)).wrapping_add(s1)
+/// The words of a block's schedule.
+fn schedule(block: &[u8]) -> [u32; 64] {
+    let mut w = [0; 64];
+    for (word, bytes) in w.iter_mut().zip(block.chunks(4)) {
+        *word = u32::from_be_bytes(bytes.try_into().unwrap());
+    }
+    for t in 16..64 {
+        let (x, y) = (w[t - 15], w[t - 2]);
+        let s0 = x.rotate_right(7) ^ x.rotate_right(18) ^ (x >> 3);
+        let s1 = y.rotate_right(17) ^ y.rotate_right(19) ^ (y >> 10);
+        let sum = w[t - 16].wrapping_add(s0);
+        w[t] = sum.wrapping_add(w[t - 7]).wrapping_add(s1);
+    }
+    w
 }
 
 /// One turn, with the sum of its constant and its word.
 fn turn([a, b, c, d, e, f, g, h]: [u32; 8], given: u32) -> [u32; 8] {
-    let choose = g ^ (e & (f ^ g));
-    let most = (a & b) | (c & (a | b));
+    let choose = (e & f) ^ (!e & g);
+    let most = (a & b) ^ (a & c) ^ (b & c);
     let first = h
-        .wrapping_add(rotations(e, [6, 5, 14]))
+        .wrapping_add(rotations(e, [6, 11, 25]))
         .wrapping_add(choose)
         .wrapping_add(given);
-    let second = rotations(a, [2, 11, 9]).wrapping_add(most);
+    let second = rotations(a, [2, 13, 22]).wrapping_add(most);
     [
         first.wrapping_add(second),
         a,
@@ -71,14 +77,9 @@ impl Sha256 {
     }
 
     fn block(&self, state: &mut [u32; 8], block: &[u8]) {
-        let word = |i: usize| u32::from_be_bytes(block[4 * i..4 * i + 4].try_into().unwrap());
-        let mut ring: [u32; 16] = std::array::from_fn(word);
         let mut v = *state;
-        for t in 0..64 {
-            if t >= 16 {
-                ring[t % 16] = next_word(&ring, t);
-            }
-            v = turn(v, self.k[t].wrapping_add(ring[t % 16]));
+        for (k, w) in self.k.iter().zip(schedule(block)) {
+            v = turn(v, k.wrapping_add(w));
         }
         for (s, v) in state.iter_mut().zip(v) {
             *s = s.wrapping_add(v);

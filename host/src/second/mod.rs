@@ -8,7 +8,7 @@
 //! | coefficients | Lagrange's quotients of products | the powers of the points as a matrix, inverted by elimination |
 //! | product of columns | Horner's rule with a shift | all nine products, then long division by x^3 + x + 1 |
 //! | fingerprint | Horner's rule from the end, a table for each seed | a sum from the front with a running power |
-//! | hash | 64 words, the standard's functions and constants | a ring of 16 words, rotations of rotations, constants from roots |
+//! | hash | a ring of 16 words, rotations of rotations, the standard's constants | all 64 words first, the standard's formulas, constants from roots |
 //! | records | fields at places | fields split off the front, one after the other |
 //!
 //! Each operation takes what its C form takes and answers in numbers, so that the two can be called alike and compared.
