@@ -2,11 +2,11 @@
 use mathlib.Core.Path.{_≡_, refl, sym, ap, ap₂, _∙_}
 use mathlib.Core.Logic.{_≢_}
 use mathlib.Core.List.{List, [], _∷_, map}
-use Prim.Native.Nat.{ℕ, zero, suc, _≤_, _<_, zero-le, suc-le-suc}
+use Prim.Native.Nat.{ℕ, zero, suc, _≤_, suc-le-suc}
 use native.Mathlib.Nat.{le-of-suc-le-suc, not-suc-le-zero, le-trans, le-of-eq, suc-inj, suc-ne-zero}
 use lib.ListN.{length}
 use Rattle.algebra.specs.Carrier.{Carrier, Laws, Inverts}
-use Rattle.algebra.specs.Several.{All, In, Distinct}
+use Rattle.algebra.specs.Several.{All, Distinct}
 use Rattle.algebra.specs.Polynomial.{value, raised, slopes, interpolate}
 use Rattle.algebra.proofs.Ring.{ring, same-of-sum}
 use Rattle.algebra.proofs.Several.{all-both}

@@ -1,10 +1,10 @@
 -- Lagrange's form: the value of the polynomial through points is the combination of its values there by the points' weights.
 use mathlib.Core.Path.{_≡_, refl, sym, ap, ap₂, subst, _∙_}
-use mathlib.Core.Logic.{_≢_, _⊎_, inl, inr, ⊎-elim}
+use mathlib.Core.Logic.{_≢_, inl, inr, ⊎-elim}
 use mathlib.Core.Bool.{Bool, true, false}
 use mathlib.Core.List.{List, [], _∷_, map}
 use Prim.Native.Nat.{ℕ, zero, suc, _≤_, zero-le, suc-le-suc}
-use native.Mathlib.Nat.{le-of-eq, le-trans, le-refl, le-step}
+use native.Mathlib.Nat.{le-of-eq, le-trans, le-step}
 use lib.ListN.{length, length-map}
 use Rattle.algebra.specs.Carrier.{Carrier, Laws, Inverts}
 use Rattle.algebra.specs.Several.{All, In, Distinct}

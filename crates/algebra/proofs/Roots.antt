@@ -1,8 +1,8 @@
 -- A polynomial with c coefficients, not all zero, has at most c - 1 different roots.
 use mathlib.Core.Path.{_≡_, refl, sym, ap, _∙_}
-use mathlib.Core.Logic.{_≢_, _⊎_, inl, inr, ⊎-elim}
+use mathlib.Core.Logic.{_≢_, ⊎-elim}
 use mathlib.Core.List.{List, [], _∷_}
-use Prim.Native.Nat.{ℕ, zero, suc, _≤_, _<_}
+use Prim.Native.Nat.{suc, _≤_, _<_}
 use native.Mathlib.Nat.{le-of-suc-le-suc, not-suc-le-zero, lt-of-not-le, le-trans, le-of-eq}
 use lib.ListN.{length}
 use Rattle.algebra.specs.Carrier.{Carrier, Laws}

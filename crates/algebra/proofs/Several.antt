@@ -1,6 +1,6 @@
 -- Laws of `listed`, `All`, `In` and `Distinct`, and a list walked from the last entry to the first.
 use mathlib.Core.Path.{_≡_, refl, sym, ap, ap₂, subst, _∙_}
-use mathlib.Core.Logic.{_≢_, _⊎_, inl, inr}
+use mathlib.Core.Logic.{_≢_, inl, inr}
 use mathlib.Core.List.{List, [], _∷_, _++_, map, append-assoc, append-nil}
 use Prim.Native.Nat.{ℕ, zero, suc, _+_, _-_, _*_, _≤_, _<_, zero-le, suc-le-suc}
 use native.Mathlib.Nat.{le-trans, le-of-eq, le-of-suc-le-suc, not-suc-le-zero, zero-lt-suc, suc-ne-zero, suc-inj, zero-mul, suc-mul, add-comm}

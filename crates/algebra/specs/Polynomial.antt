@@ -1,5 +1,5 @@
 -- Polynomials as lists of coefficients, the lowest first; interpolation through points, and Lagrange's form of it.
-use mathlib.Core.Bool.{Bool, true, false}
+use mathlib.Core.Bool.{true, false}
 use mathlib.Core.List.{List, [], _∷_, map}
 use Rattle.algebra.specs.Carrier.{Carrier}
 

@@ -3,8 +3,8 @@ use mathlib.Core.Path.{_≡_, refl, sym, ap, ap₂, _∙_}
 use mathlib.Core.Logic.{_≢_, _⊎_, inl, inr, ⊎-elim}
 use mathlib.Core.Bool.{Bool, true, false, _&&_, false≢true}
 use Rattle.algebra.specs.Carrier.{Carrier, Laws, Inverts}
-use Rattle.algebra.proofs.Ring.{ring, decided, product-none, product-unit}
-use Rattle.column.specs.Triple.{Triple, zero-triple, one-triple, sum, multiple, product, triples}
+use Rattle.algebra.proofs.Ring.{ring, decided, product-unit}
+use Rattle.column.specs.Triple.{Triple, zero-triple, one-triple, multiple, product, triples}
 use Rattle.column.proofs.Triple.{triple-path, first, second, third, coefficients, times-assoc, times-comm, times-plus, times-one, triple-space-laws}
 
 -- x^3 + x + 1 has no root

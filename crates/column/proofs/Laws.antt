@@ -1,19 +1,15 @@
 -- The columns of bytes keep every law of a carrier and scale by bytes; the columns that the code holds are these, by their numbers.
-use mathlib.Core.Path.{_≡_, refl, sym, ap, ap₂, _∙_}
-use Prim.Native.Nat.{ℕ, _<_}
-use Rattle.algebra.specs.Carrier.{Carrier, Laws}
-use Rattle.algebra.specs.Combination.{Space, SpaceLaws}
-use Rattle.algebra.proofs.Ring.{ring}
+use mathlib.Core.Path.{refl}
+use Rattle.algebra.specs.Carrier.{Laws}
+use Rattle.algebra.specs.Combination.{SpaceLaws}
 use Rattle.algebra.proofs.Carried.{Carries, SpaceCarries}
-use Rattle.field.specs.Byte.{bytes}
-use Rattle.field.proofs.Byte.{Byte, field, laws, number, byte, number-byte, inverse, times-inverse}
+use Rattle.field.proofs.Byte.{Byte, field, laws, number, inverse, times-inverse}
 use Rattle.column.specs.declared.Column.{Column}
-use Rattle.column.specs.Triple.{Triple, zero-triple, one-triple, sum, multiple, product, triples, triple-space}
+use Rattle.column.specs.Triple.{Triple, triples, triple-space}
 use Rattle.column.specs.Column.{plus, scaled, times, columns, column-space}
-use Rattle.column.proofs.Triple.{triple-path, first, second, third, coefficients, triple-space-laws}
+use Rattle.column.proofs.Triple.{triple-space-laws}
 use Rattle.column.proofs.Divisors.{triple-laws}
 use Rattle.column.proofs.Rootless.{rootless}
-use Rattle.column.proofs.Seed.{column-path}
 
 -- columns of bytes: a commutative ring without zero divisors
 pub column-laws : Laws (triples field)

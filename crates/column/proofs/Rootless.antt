@@ -1,12 +1,12 @@
 -- x^3 + x + 1 has no root among the 256 bytes: one test, computed at each of them.
 use mathlib.Core.Path.{ap, sym, subst}
 use mathlib.Core.Bool.{Bool, not}
-use Prim.Native.Nat.{ℕ, _<_}
+use Prim.Native.Nat.{ℕ}
 use lib.Dec.{T, eqb, T-not}
 use borrow.Author.Tests.{eq-eqb}
 use Rattle.field.specs.Byte.{plus, xtime, product, times}
 use Rattle.field.proofs.Test.{both, every, at}
-use Rattle.field.proofs.Byte.{Byte, field, number}
+use Rattle.field.proofs.Byte.{field, number}
 use Rattle.column.proofs.Divisors.{Rootless}
 
 is-root : ℕ → Bool

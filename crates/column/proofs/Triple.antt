@@ -1,11 +1,9 @@
 -- Columns over a field in which t^3 + t + 1 has no root keep every law of a carrier: they are a ring without zero divisors.
-use mathlib.Core.Path.{_≡_, refl, sym, ap, ap₂, _∙_}
-use mathlib.Core.Logic.{_≢_, _⊎_, inl, inr, ⊎-elim}
-use mathlib.Core.Bool.{Bool, true, false, _&&_}
-use Rattle.algebra.specs.Carrier.{Carrier, Laws, Inverts}
+use mathlib.Core.Path.{_≡_, sym}
+use Rattle.algebra.specs.Carrier.{Carrier, Laws}
 use Rattle.algebra.specs.Combination.{SpaceLaws}
-use Rattle.algebra.proofs.Ring.{ring, none-sum, product-none, none-product, unit-product, product-sum, sum-product, product-unit}
-use Rattle.column.specs.Triple.{Triple, zero-triple, one-triple, sum, multiple, shifted, product, triples, triple-space}
+use Rattle.algebra.proofs.Ring.{ring, product-none, none-product, unit-product, product-sum, sum-product}
+use Rattle.column.specs.Triple.{Triple, one-triple, sum, multiple, product, triple-space}
 
 pub triple-path : {A : Type 0} (u v : Triple A) → u .a ≡ v .a → u .b ≡ v .b → u .c ≡ v .c → u ≡ v
 triple-path u v p q r = λ i. record { a = p i; b = q i; c = r i }

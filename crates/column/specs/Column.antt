@@ -1,6 +1,6 @@
 -- Columns of bytes, as the code holds them: the column of a seed number, sums, multiples and products.
 use Prim.Native.Nat.{ℕ, _/_, _%_}
-use mathlib.Core.Bool.{Bool, true, false}
+use mathlib.Core.Bool.{true, false}
 use lib.Dec.{ltb}
 use Rattle.limits.specs.Limits.{largest-seed}
 use Rattle.algebra.specs.Carrier.{Carrier}

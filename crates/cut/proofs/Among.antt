@@ -1,17 +1,15 @@
 -- The check record from the bodies where they stand: each hash, each fingerprint, and the three parts of the record.
-use mathlib.Core.Path.{_≡_, refl, sym, ap, ap₂, subst, _∙_}
-use mathlib.Core.List.{List, [], _∷_, _++_, append-assoc, append-nil}
+use mathlib.Core.Path.{_≡_, ap, ap₂, _∙_}
+use mathlib.Core.List.{List, [], _∷_}
 use Prim.Native.Nat.{ℕ, zero, suc, _+_, _-_, _*_, _<_, _≤_}
 use native.Mathlib.Omega.{arith}
 use borrow.Author.Tests.{le-ltb}
-use borrow.Rule.Slice.PartMut.{midOf, putMid}
-use lib.ListN.{length, take, drop, length-take, length-drop, length-append, drop-of-length-le}
-use lib.Seq.{take-at, drop-at, length-take-le}
+use lib.ListN.{length, take, drop, length-take}
 use Rattle.limits.specs.Limits.{longest-body}
-use Rattle.algebra.specs.Several.{All, listed, end-to-end}
+use Rattle.algebra.specs.Several.{All}
 use Rattle.algebra.proofs.Several.{all-take}
 use Rattle.column.specs.declared.Column.{Column}
-use Rattle.column.specs.Column.{times, from-seed}
+use Rattle.column.specs.Column.{times}
 use Rattle.fingerprint.specs.Fingerprint.{columns-of, fingerprint-at}
 use Rattle.fingerprint.specs.Horner.{table-of, evaluated}
 use Rattle.fingerprint.proofs.Packing.{Bytes}

@@ -1,11 +1,11 @@
 -- The records of a cut: how each is put together, how long they are, and what is read back of them.
 use mathlib.Core.Path.{_≡_, refl, sym, ap, ap₂, _∙_}
-use mathlib.Core.List.{List, [], _∷_, _++_, append-assoc, append-nil}
+use mathlib.Core.List.{List, _∷_, _++_, append-assoc}
 use Prim.Native.Nat.{ℕ, zero, suc, _+_, _-_, _*_, _<_, _≤_}
 use native.Mathlib.Nat.{le-trans}
 use native.Mathlib.Omega.{arith}
 use borrow.Rule.Slice.PartMut.{midOf, putMid, same-len-mid}
-use lib.ListN.{length, take, drop, length-take, length-drop, length-append, drop-of-length-le}
+use lib.ListN.{length, take, drop, length-drop, length-append}
 use lib.Seq.{take-at, drop-at, take-add, drop-drop, drop-append-le, take-append-le, length-take-le}
 use Rattle.algebra.specs.Several.{listed, end-to-end}
 use Rattle.algebra.proofs.Several.{listed-same, listed-length, end-to-end-length}

@@ -1,14 +1,13 @@
 -- When a cut is refused: each way out of the tests, and what has been tested where it is not refused.
-use mathlib.Core.Path.{_≡_, refl, sym, ap, ap₂, _∙_}
-use mathlib.Core.Bool.{Bool, true, false, _&&_, cond}
+use mathlib.Core.Path.{_≡_, refl, sym, ap, _∙_}
+use mathlib.Core.Bool.{Bool, true, false, cond}
 use mathlib.Core.List.{List}
-use Prim.Native.Nat.{ℕ, _+_, _-_, _*_, _/_, _<_, _≤_}
-use native.Mathlib.Nat.{div-lt-iff-lt-mul}
+use Prim.Native.Nat.{ℕ, _*_, _<_, _≤_}
 use native.Mathlib.Omega.{arith}
 use lib.Dec.{eqb, leb}
 use lib.ListN.{length}
 use borrow.Author.Tests.{le-leb, lt-leb, eq-eqb, ne-eqb, leb-true, eqb-true}
-use Rattle.limits.specs.Limits.{most-fragments, longest-block, longest-body, largest-seed}
+use Rattle.limits.specs.Limits.{longest-block, largest-seed}
 use Rattle.code.specs.Cutting.{body-length}
 use Rattle.record.specs.Layout.{written-version, check-length, record-length}
 use Rattle.record.specs.Heads.{counts-fit}

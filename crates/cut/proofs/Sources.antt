@@ -1,9 +1,9 @@
 -- A body from the block: what stands of it in the block with zero bytes behind, or the sum of all that stand there, each by its
 -- coefficient.
 use mathlib.Core.Path.{_≡_, refl, sym, ap, _∙_}
-use mathlib.Core.List.{List, [], _∷_, _++_, map, append-nil}
+use mathlib.Core.List.{List, [], _∷_, _++_, map}
 use Prim.Native.Nat.{ℕ, zero, suc, _+_, _-_, _*_, _^_, _<_, _≤_, min}
-use native.Mathlib.Nat.{not-suc-le-zero, le-of-suc-le-suc, le-of-lt, mul-le-mul-right}
+use native.Mathlib.Nat.{le-of-lt, mul-le-mul-right}
 use native.Mathlib.Decide.{decLe}
 use native.Mathlib.Omega.{arith}
 use lib.ListN.{length, getD, take, drop, replicate, length-take, length-drop, length-append, length-replicate, drop-of-length-le}
@@ -12,8 +12,7 @@ use Rattle.algebra.specs.Several.{All}
 use Rattle.algebra.specs.Combination.{combined, itself}
 use Rattle.algebra.proofs.Several.{listed-at}
 use Rattle.field.specs.Byte.{plus, times, bytes}
-use Rattle.field.proofs.Sum.{plus-none, plus-comm}
-use Rattle.field.proofs.Product.{times-none}
+use Rattle.field.proofs.Sum.{plus-comm}
 use Rattle.code.specs.Adding.{added}
 use Rattle.code.specs.Cutting.{points, source, byte-of, body, coefficient-of}
 use Rattle.code.proofs.Plain.{Small}

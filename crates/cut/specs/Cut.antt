@@ -1,12 +1,11 @@
 -- Cutting a block: the records and the check record, byte by byte, and the refusals.
-use mathlib.Core.Bool.{Bool, true, false, _&&_, cond}
-use mathlib.Core.List.{List, [], _∷_}
+use mathlib.Core.Bool.{Bool, _&&_, cond}
+use mathlib.Core.List.{List}
 use Prim.Native.Nat.{ℕ, _+_, _*_}
 use lib.Dec.{eqb, leb}
 use lib.ListN.{length, take, drop}
 use Rattle.limits.specs.Limits.{longest-block, largest-seed}
 use Rattle.algebra.specs.Several.{listed, end-to-end}
-use Rattle.column.specs.declared.Column.{Column}
 use Rattle.column.specs.Column.{from-seed}
 use Rattle.code.specs.Cutting.{body-length, body}
 use Rattle.fingerprint.specs.Fingerprint.{fingerprint-at}

@@ -8,13 +8,11 @@ use lib.Dec.{eqb, ltb, lit<, lit≤}
 use lib.ListN.{length, take, drop, length-append}
 use lib.Seq.{drop-at}
 use borrow.Author.Tests.{eq-eqb, lt-ltb}
-use Rattle.limits.specs.Limits.{longest-block, largest-seed}
 use Rattle.algebra.specs.Several.{All}
 use Rattle.algebra.proofs.Several.{map-listed}
 use Rattle.column.specs.declared.Column.{Column}
 use Rattle.column.specs.Column.{columns, from-seed}
-use Rattle.code.specs.Cutting.{points, body-length, body}
-use Rattle.code.proofs.Plain.{Small}
+use Rattle.code.specs.Cutting.{points, body-length}
 use Rattle.code.proofs.Bodies.{body-length-is}
 use Rattle.code.proofs.Longest.{body-length-fits}
 use Rattle.fingerprint.specs.Fingerprint.{columns-of, fingerprint-at, called-for}
@@ -22,12 +20,12 @@ use Rattle.sha256.specs.Fips180.{SHA-256}
 use Rattle.record.specs.declared.CheckHead.{CheckHead}
 use Rattle.record.specs.declared.FragmentHead.{FragmentHead}
 use Rattle.record.specs.Layout.{written-version, hashes-place, prints-place, body-place}
-use Rattle.record.specs.Records.{check-head, check-record, fragment-head, fragment-record}
-use Rattle.record.specs.Heads.{check-head-of, fragment-head-of, check-marked, check-shaped, counts-fit, fragment-shaped}
+use Rattle.record.specs.Records.{check-record, fragment-head, fragment-record}
+use Rattle.record.specs.Heads.{check-head-of, fragment-head-of, check-marked, check-shaped, fragment-shaped}
 use Rattle.record.proofs.Counts.{Counts, counted}
 use Rattle.record.proofs.ReadBack.{check-back, fragment-back, fragment-head-length}
 use Rattle.record.proofs.Accepted.{check-head-known, check-head-shaped, fragment-head-shaped}
-use Rattle.inspect.specs.Answer.{Answer, accepted}
+use Rattle.inspect.specs.Answer.{accepted}
 use Rattle.inspect.specs.Check.{same-bytes, size-of, hash-of, hash-agrees, print-agrees, conditions, checked}
 use Rattle.inspect.specs.Check as inspect
 use Rattle.inspect.proofs.Exact.{Holds, all-hold}

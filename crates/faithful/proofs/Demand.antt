@@ -1,14 +1,12 @@
 -- Demand 2 of a cut and its records, as `specs/Faithful` states it.
-use mathlib.Core.Path.{_≡_, refl, ap, _∙_}
+use mathlib.Core.Path.{ap, _∙_}
 use mathlib.Core.List.{List}
-use Prim.Native.Nat.{ℕ, _<_}
+use Prim.Native.Nat.{ℕ}
 use lib.ListN.{length}
 use Rattle.cut.specs.Cut as cut
 use Rattle.record.specs.declared.CheckHead.{CheckHead}
 use Rattle.record.specs.Layout.{written-version}
-use Rattle.record.specs.Heads.{check-head-of}
-use Rattle.column.specs.Column.{from-seed}
-use Rattle.faithful.specs.Faithful.{Within, EachAccepted, Holds, AnyGiveBack}
+use Rattle.faithful.specs.Faithful.{Within, EachAccepted, AnyGiveBack}
 use Rattle.faithful.proofs.Accepted.{head-is, marked-is, shaped-is, counts, n≤, accepted-as, body-is}
 use Rattle.faithful.proofs.Joined.{Honest, done, given-back}
 

@@ -2,10 +2,10 @@
 use mathlib.Core.Path.{_≡_, refl, sym, ap, ap₂, subst, _∙_}
 use mathlib.Core.Logic.{_≢_, _⊎_, inl, inr, ⊎-elim}
 use mathlib.Core.Bool.{Bool, true, false, _&&_, cond}
-use mathlib.Core.List.{List, [], _∷_, map}
-use Prim.Native.Nat.{ℕ, _+_, _*_, _%_, _<_, _≤_}
+use mathlib.Core.List.{List, _∷_}
+use Prim.Native.Nat.{ℕ, _%_, _<_, _≤_}
 use native.Mathlib.Nat.{lt-of-lt-of-le, lt-irrefl, le-trans, le-of-eq, eq-or-lt-of-le}
-use lib.Dec.{eqb, leb}
+use lib.Dec.{eqb}
 use lib.ListN.{length, take, drop, length-map}
 use borrow.Author.Tests.{eq-eqb, eqb-true, eqb-false, le-leb}
 use Rattle.algebra.specs.Several.{All, In, Distinct}
@@ -14,14 +14,14 @@ use Rattle.code.specs.Cutting.{body-length, filled, body}
 use Rattle.code.specs.Joining.{joined}
 use Rattle.code.proofs.Plain.{Small, in-map}
 use Rattle.record.specs.declared.CheckHead.{CheckHead}
-use Rattle.record.specs.Layout.{written-version, record-length}
+use Rattle.record.specs.Layout.{written-version}
 use Rattle.record.specs.Records.{fragment-record}
 use Rattle.record.specs.Heads.{check-head-of, check-marked, check-shaped}
 use Rattle.inspect.specs.Answer.{Answer, accepted}
 use Rattle.inspect.specs.Check.{size-of, checked}
 use Rattle.inspect.specs.Check as inspect
 use Rattle.cut.specs.Cut as cut
-use Rattle.gather.specs.Gather.{Used, stride, record-at, used, count-of, read-count}
+use Rattle.gather.specs.Gather.{Used, stride, record-at, count-of}
 use Rattle.gather.proofs.Used.{indexes, Sound, sound}
 use Rattle.join.specs.Join.{body-with, all-used, padded, all-zero, lengths-fit, join-number, join-output}
 use Rattle.join.proofs.Found.{room}

@@ -1,13 +1,13 @@
 -- A block filled with zero bytes has the block's bodies, and any m of them give it back.
-use mathlib.Core.Path.{_≡_, refl, sym, ap, ap₂, subst, _∙_}
-use mathlib.Core.Bool.{true, _&&_}
-use mathlib.Core.List.{List, [], _∷_, _++_, map}
-use Prim.Native.Nat.{ℕ, zero, suc, _+_, _-_, _*_, _/_, _%_, _<_, _≤_}
+use mathlib.Core.Path.{_≡_, refl, sym, ap, _∙_}
+use mathlib.Core.Bool.{true}
+use mathlib.Core.List.{List, [], _∷_, _++_}
+use Prim.Native.Nat.{ℕ, zero, suc, _+_, _-_, _*_, _/_, _%_, _≤_}
 use native.Mathlib.Nat.{add-sub-of-le}
 use lib.Dec.{lit<}
 use lib.ListN.{length, getD, take, drop, replicate, length-append, length-replicate}
 use lib.Seq.{take-append-seam, drop-append-seam}
-use Rattle.algebra.specs.Several.{listed, All, Distinct}
+use Rattle.algebra.specs.Several.{All, Distinct}
 use Rattle.algebra.specs.Polynomial.{value, interpolate}
 use Rattle.algebra.proofs.Several.{all-at, all-of, map-same, listed-same}
 use Rattle.field.specs.Byte.{bytes, inverse}

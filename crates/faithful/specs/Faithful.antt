@@ -9,7 +9,7 @@ use Rattle.limits.specs.Limits.{longest-block, largest-seed}
 use Rattle.algebra.specs.Several.{All, Distinct}
 use Rattle.record.specs.Layout.{written-version}
 use Rattle.record.specs.Records.{fragment-record}
-use Rattle.record.specs.Heads.{counts-fit, check-head-of}
+use Rattle.record.specs.Heads.{counts-fit}
 use Rattle.inspect.specs.Answer.{accepted}
 use Rattle.inspect.specs.Check.{checked}
 use Rattle.cut.specs.Cut as cut

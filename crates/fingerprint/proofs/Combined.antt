@@ -1,26 +1,26 @@
 -- Theorem 2.11 of document 000 on bytes: the fingerprint of a combination of bodies is the combination of their fingerprints.
-use mathlib.Core.Path.{_≡_, refl, sym, ap, ap₂, fun-ext, _∙_}
-use mathlib.Core.List.{List, [], _∷_, map}
-use Prim.Native.Nat.{ℕ, zero, suc, _+_, _*_, _<_, _≤_}
+use mathlib.Core.Path.{_≡_, refl, sym, ap, ap₂, _∙_}
+use mathlib.Core.List.{List, map}
+use Prim.Native.Nat.{ℕ, _+_, _*_}
 use lib.ListN.{length, getD}
-use Rattle.algebra.specs.Several.{listed, All, In}
+use Rattle.algebra.specs.Several.{listed, All}
 use Rattle.algebra.specs.Polynomial.{value}
-use Rattle.algebra.specs.Combination.{SpaceLaws, combined, itself}
+use Rattle.algebra.specs.Combination.{combined, itself}
 use Rattle.algebra.proofs.Several.{all-at, all-of, map-same, listed-same, map-listed}
 use Rattle.algebra.proofs.Carried.{SpaceCarries, value-carried, combined-carried}
 use Rattle.algebra.proofs.Combination.{total}
 use Rattle.field.specs.Byte.{bytes}
 use Rattle.field.proofs.Byte.{Byte, field, laws, number, byte, number-byte, same}
 use Rattle.column.specs.declared.Column.{Column}
-use Rattle.column.specs.Triple.{Triple, product, multiple, triples, triple-space}
+use Rattle.column.specs.Triple.{Triple, multiple, triples, triple-space}
 use Rattle.column.specs.Column.{columns, column-space}
 use Rattle.column.proofs.Triple.{triple-path, times-multiple}
 use Rattle.column.proofs.Seed.{column-path}
 use Rattle.column.proofs.Laws.{column-laws, column-space-laws, numbers, numbers-carry, numbers-carry-space}
 use Rattle.code.proofs.Plain.{Small, map-map}
 use Rattle.code.proofs.Bodies.{getD-small}
-use Rattle.fingerprint.specs.Fingerprint.{columns-of, fingerprint-at}
-use Rattle.fingerprint.proofs.Linear.{scaling, Scales, value-combined}
+use Rattle.fingerprint.specs.Fingerprint.{fingerprint-at}
+use Rattle.fingerprint.proofs.Linear.{Scales, value-combined}
 use Rattle.fingerprint.proofs.Reading.{columns-in, column-at, columns-listed}
 
 -- column s of a body, as a column of bytes

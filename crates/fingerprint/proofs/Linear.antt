@@ -1,6 +1,6 @@
 -- The value at a seed of a combination of bodies is the combination of their values (theorem 2.11 of document 000), over any carrier.
 use mathlib.Core.Path.{_≡_, refl, sym, ap, ap₂, _∙_}
-use mathlib.Core.List.{List, [], _∷_, map}
+use mathlib.Core.List.{List, [], _∷_}
 use Prim.Native.Nat.{ℕ, zero, suc}
 use Rattle.algebra.specs.Carrier.{Carrier, Laws}
 use Rattle.algebra.specs.Several.{listed}

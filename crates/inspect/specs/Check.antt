@@ -8,8 +8,6 @@ use Rattle.column.specs.Column.{columns}
 use Rattle.code.specs.Cutting.{body-length}
 use Rattle.fingerprint.specs.Fingerprint.{columns-of, fingerprint-at, called-for}
 use Rattle.sha256.specs.Fips180.{SHA-256}
-use Rattle.record.specs.declared.CheckHead.{CheckHead}
-use Rattle.record.specs.declared.FragmentHead.{FragmentHead}
 use Rattle.record.specs.Layout.{hashes-place, prints-place, body-place}
 use Rattle.record.specs.Heads.{check-head-of, fragment-head-of, check-marked, check-shaped, fragment-shaped}
 use Rattle.inspect.specs.Answer.{Answer, accepted, refused, refused-with}

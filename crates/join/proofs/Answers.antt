@@ -1,9 +1,8 @@
 -- What a join answers and leaves in the output: each way out, from the tests that led there.
 use mathlib.Core.Path.{_≡_, refl, sym, ap, ap₂, subst, subst₂, _∙_}
-use mathlib.Core.Bool.{Bool, true, false, _&&_, cond}
-use mathlib.Core.List.{List, map}
-use Prim.Native.Nat.{ℕ, _+_, _-_, _*_, _/_, _%_, _<_, _≤_}
-use native.Mathlib.Nat.{lt-of-lt-of-le}
+use mathlib.Core.Bool.{Bool, true, false, cond}
+use mathlib.Core.List.{List}
+use Prim.Native.Nat.{ℕ, _+_, _-_, _*_, _<_, _≤_}
 use native.Mathlib.Omega.{arith}
 use lib.Dec.{eqb, leb}
 use lib.ListN.{length, take, drop, length-map}
@@ -15,7 +14,7 @@ use Rattle.algebra.proofs.Several.{all-both, all-map}
 use Rattle.code.specs.Cutting.{body-length}
 use Rattle.code.proofs.Plain.{Small}
 use Rattle.record.specs.declared.CheckHead.{CheckHead}
-use Rattle.record.specs.Layout.{hashes-place, check-length}
+use Rattle.record.specs.Layout.{hashes-place}
 use Rattle.record.specs.Heads.{check-head-of, check-marked, check-shaped, counts-fit}
 use Rattle.inspect.specs.Answer.{Answer, accepted}
 use Rattle.inspect.specs.Check.{size-of, checked, conditions}
@@ -28,7 +27,7 @@ use Rattle.gather.proofs.Used.{indexes, Sound, sound}
 use Rattle.gather.proofs.Places.{place-within}
 use Rattle.gather.proofs.Holding.{indexes-held}
 use Rattle.join.specs.declared.Joined.{Joined}
-use Rattle.join.specs.Join.{all-used, body-with, padded, all-zero, lengths-fit, join-number, counted, join-answer, join-output}
+use Rattle.join.specs.Join.{all-used, padded, all-zero, lengths-fit, join-number, counted, join-answer, join-output}
 use Rattle.join.specs.Parts.{block-byte}
 use Rattle.join.proofs.Tested.{tests}
 use Rattle.join.proofs.Found.{places, take-listed, drop-listed, room, fill-short, block-joined}

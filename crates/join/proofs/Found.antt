@@ -1,16 +1,15 @@
 -- The records that are used have the bodies from which the padded block is regained, so the sum by weights is the block.
-use mathlib.Core.Path.{_≡_, refl, sym, ap, ap₂, subst, _∙_}
-use mathlib.Core.Logic.{_≢_}
-use mathlib.Core.Bool.{Bool, true, false}
+use mathlib.Core.Path.{_≡_, refl, sym, ap, subst, _∙_}
+use mathlib.Core.Bool.{true, false}
 use mathlib.Core.List.{List, [], _∷_, map}
 use Prim.Native.Nat.{ℕ, _+_, _-_, _*_, _/_, _%_, _<_, _≤_}
 use native.Mathlib.Nat.{lt-of-lt-of-le, lt-div-mul-add, div-mul-le-self}
 use native.Mathlib.Omega.{arith}
 use lib.Dec.{eqb}
-use lib.ListN.{length, getD, take, drop, length-take, length-drop, length-map}
+use lib.ListN.{length, getD, take, drop, length-take, length-drop}
 use lib.Seq.{getD-take, getD-drop, ext-getD}
 use borrow.Author.Tests.{eq-eqb, ne-eqb}
-use Rattle.algebra.specs.Several.{listed, All, In, Distinct}
+use Rattle.algebra.specs.Several.{listed, All, Distinct}
 use Rattle.algebra.specs.Polynomial.{weight}
 use Rattle.algebra.specs.Combination.{combined, itself}
 use Rattle.algebra.proofs.Several.{all-at, all-of, all-both, all-map, map-same, listed-length, listed-at, listed-same}

@@ -1,7 +1,7 @@
 -- How much room a block of at most 512 bytes takes.
 use mathlib.Core.Path.{_≡_, refl, ap, _∙_}
 use Prim.Native.Nat.{ℕ, zero, suc, _+_, _-_, _*_, _/_, _<_, _≤_}
-use native.Mathlib.Nat.{div-lt-iff-lt-mul, mul-le-mul-right, suc-mul}
+use native.Mathlib.Nat.{div-lt-iff-lt-mul, mul-le-mul-right}
 use native.Mathlib.Omega.{arith}
 use Rattle.code.specs.Cutting.{body-length}
 use Rattle.code.proofs.Lengths.{no-bodies}

@@ -1,26 +1,25 @@
 -- The block that m of the bodies fix: byte by byte, what the points say of each place.
-use mathlib.Core.Path.{_≡_, refl, sym, ap, ap₂, subst, fun-ext, _∙_}
+use mathlib.Core.Path.{_≡_, refl, sym, ap, ap₂, _∙_}
 use mathlib.Core.List.{List, [], _∷_, map}
 use Prim.Native.Nat.{ℕ, zero, suc, _+_, _*_, _/_, _%_, _<_, _≤_}
 use native.Mathlib.Nat.{lt-of-lt-of-le, mod-lt}
 use native.Mathlib.Omega.{arith}
 use lib.Dec.{lit<}
-use lib.ListN.{length, getD}
+use lib.ListN.{getD}
 use lib.Arith.{digits-div, digits-mod, digits-lt}
-use Rattle.algebra.specs.Several.{listed, All, In, Distinct}
+use Rattle.algebra.specs.Several.{All, Distinct}
 use Rattle.algebra.specs.Combination.{combined, itself}
-use Rattle.algebra.specs.Polynomial.{value, interpolate, weight}
+use Rattle.algebra.specs.Polynomial.{weight}
 use Rattle.algebra.proofs.Several.{all-at, all-of, map-same, listed-length, listed-at, all-listed}
 use Rattle.algebra.proofs.Carried.{SpaceCarries, combined-carried}
 use Rattle.algebra.proofs.Combination.{total}
 use Rattle.algebra.proofs.Lagrange.{lagrange}
-use Rattle.field.specs.Byte.{bytes}
 use Rattle.field.proofs.Byte.{Byte, field, laws, number, byte, number-byte, byte-number, inverse, times-inverse}
 use Rattle.column.specs.Triple.{Triple, multiple, triples, triple-space}
 use Rattle.column.proofs.Laws.{column-laws}
-use Rattle.code.specs.Cutting.{points, source, byte-of, body}
+use Rattle.code.specs.Cutting.{points, source, byte-of}
 use Rattle.code.specs.Joining.{regained, joined}
-use Rattle.code.proofs.Plain.{Small, over, different, in-map, map-map, value-back, plain-small}
+use Rattle.code.proofs.Plain.{Small, over, different, map-map, value-back, plain-small}
 use Rattle.code.proofs.Bodies.{points-small, points-distinct, points-below, getD-small, row}
 use Rattle.fingerprint.proofs.Combined.{byte-column, scales}
 use Rattle.trust.specs.Trust.{Bytes}

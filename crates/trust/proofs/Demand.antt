@@ -8,7 +8,7 @@ use Rattle.algebra.proofs.Several.{all-both}
 use Rattle.column.specs.Column.{from-seed}
 use Rattle.fingerprint.specs.Fingerprint.{fingerprint-at}
 use Rattle.fingerprint.proofs.Reading.{columns-in}
-use Rattle.trust.specs.Trust.{own-prints, Taken, OneBlockMatches, at-most, FewSeeds}
+use Rattle.trust.specs.Trust.{own-prints, OneBlockMatches, at-most, FewSeeds}
 use Rattle.trust.proofs.Lifted.{seed-column}
 use Rattle.trust.proofs.Own.{own-match}
 use Rattle.trust.proofs.Few.{few-seeds}

@@ -1,7 +1,7 @@
 -- The second half of demand 3: where no block has all the bodies, at most F/3 - 1 seeds allow a list that matches them all.
 use mathlib.Core.Path.{_≡_, refl, sym, ap, ap₂, subst, fun-ext, _∙_}
-use mathlib.Core.List.{List, [], _∷_, map}
-use Prim.Native.Nat.{ℕ, zero, suc, _+_, _-_, _*_, _/_, _%_, _<_, _≤_}
+use mathlib.Core.List.{List, map}
+use Prim.Native.Nat.{ℕ, _*_, _/_, _%_, _<_, _≤_}
 use native.Mathlib.Nat.{lt-of-lt-of-le, le-trans, le-of-eq, lt-of-not-le}
 use native.Mathlib.Decide.{decLe}
 use native.Mathlib.Omega.{arith}
@@ -9,27 +9,26 @@ use lib.ListN.{length, getD, take, length-map}
 use lib.Seq.{ext-getD, length-take-le}
 use Rattle.limits.specs.Limits.{largest-seed}
 use Rattle.algebra.specs.Several.{listed, All, In, Distinct}
-use Rattle.algebra.specs.Combination.{combined, itself}
-use Rattle.algebra.specs.Polynomial.{value, weight}
+use Rattle.algebra.specs.Combination.{combined}
+use Rattle.algebra.specs.Polynomial.{value}
 use Rattle.algebra.proofs.Several.{all-at, all-of, all-both, all-map, all-take, distinct-take, map-same, map-listed, listed-at}
 use Rattle.algebra.proofs.Carried.{combined-carried}
-use Rattle.field.specs.Byte.{bytes}
 use Rattle.field.proofs.Byte.{Byte, field, laws, number, byte, number-byte, inverse, times-inverse}
 use Rattle.column.specs.declared.Column.{Column}
 use Rattle.column.specs.Triple.{Triple, multiple, triples, triple-space}
 use Rattle.column.specs.Column.{zero as zero-column, column-space, from-seed}
 use Rattle.column.proofs.Laws.{column-laws, numbers, numbers-carry-space}
-use Rattle.code.specs.Cutting.{points, byte-of, body, coefficient-of}
+use Rattle.code.specs.Cutting.{points, byte-of, coefficient-of}
 use Rattle.code.specs.Joining.{joined}
 use Rattle.code.proofs.Plain.{Small, different, in-map, map-map, weights-back}
 use Rattle.code.proofs.Bodies.{points-length, points-small, points-distinct, points-below, getD-small, body-at, body-length-is, coefficient-closed}
 use Rattle.fingerprint.specs.Fingerprint.{fingerprint-at, called-for}
 use Rattle.fingerprint.proofs.Reading.{columns-in}
 use Rattle.fingerprint.proofs.Combined.{byte-column, lifted, scales}
-use Rattle.trust.specs.Trust.{Bytes, IsColumn, HasAll, MatchesAll, Allows}
+use Rattle.trust.specs.Trust.{Bytes, HasAll, Allows}
 use Rattle.trust.proofs.Forced.{one-block}
 use Rattle.trust.proofs.Lifted.{lift, numbers-lift, numbers-same, seed-column, seeds-distinct, print-column, listed-again}
-use Rattle.trust.proofs.Built.{said, said-columns, part, part-said, byte-part, known, built-bytes, built-said}
+use Rattle.trust.proofs.Built.{said, said-columns, part, part-said, byte-part, built-bytes, built-said}
 
 points-map : {C : Type 0} (m : ℕ) (f : ℕ → C) → map f (points m) ≡ listed m f
 unfolding points

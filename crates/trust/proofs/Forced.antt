@@ -1,13 +1,12 @@
 -- As many seeds as a body has columns, each with a list that matches every body, leave no choice: one block has them all.
-use mathlib.Core.Path.{_≡_, refl, sym, ap, fun-ext, _∙_}
-use mathlib.Core.Logic.{_≢_}
-use mathlib.Core.List.{List, [], _∷_, map}
-use Prim.Native.Nat.{ℕ, zero, suc, _<_, _≤_}
+use mathlib.Core.Path.{_≡_, sym, ap, fun-ext, _∙_}
+use mathlib.Core.List.{List, map}
+use Prim.Native.Nat.{ℕ, _≤_}
 use native.Mathlib.Nat.{le-trans, le-of-eq}
 use lib.ListN.{length}
 use Rattle.algebra.specs.Carrier.{Carrier, Laws, Inverts}
 use Rattle.algebra.specs.Several.{listed, All, In, Distinct}
-use Rattle.algebra.specs.Combination.{combined, itself}
+use Rattle.algebra.specs.Combination.{combined}
 use Rattle.algebra.specs.Polynomial.{value, weight}
 use Rattle.algebra.proofs.Several.{all-at, all-of, map-same, listed-length}
 use Rattle.algebra.proofs.Combination.{total, composed}

@@ -1,16 +1,16 @@
 -- Seeds, columns and lists of fingerprints as columns of bytes, and back.
-use mathlib.Core.Path.{_≡_, refl, sym, ap, subst, _∙_}
+use mathlib.Core.Path.{_≡_, sym, ap, subst, _∙_}
 use mathlib.Core.Logic.{_≢_}
 use mathlib.Core.List.{List, [], _∷_, map}
-use Prim.Native.Nat.{ℕ, zero, suc, _+_, _*_, _/_, _%_, _<_, _≤_}
+use Prim.Native.Nat.{ℕ, zero, suc, _<_, _≤_}
 use native.Mathlib.Omega.{arith}
 use lib.Dec.{lit<}
 use lib.ListN.{length, getD}
 use lib.Seq.{ext-getD}
 use Rattle.limits.specs.Limits.{largest-seed}
-use Rattle.algebra.specs.Several.{listed, All, In, Distinct}
-use Rattle.algebra.proofs.Several.{all-at, listed-length, listed-at}
-use Rattle.field.proofs.Byte.{Byte, number, byte, number-byte, same}
+use Rattle.algebra.specs.Several.{listed, All, Distinct}
+use Rattle.algebra.proofs.Several.{listed-length, listed-at}
+use Rattle.field.proofs.Byte.{Byte, byte, number-byte, same}
 use Rattle.column.specs.declared.Column.{Column}
 use Rattle.column.specs.Triple.{Triple}
 use Rattle.column.specs.Column.{zero as zero-column, from-seed}

@@ -9,7 +9,7 @@ use native.Mathlib.Omega.{arith}
 use lib.Dec.{lit≤, lit<}
 use lib.ListN.{length, getD}
 use Rattle.limits.specs.Limits.{largest-seed}
-use Rattle.algebra.specs.Several.{listed, All, Distinct}
+use Rattle.algebra.specs.Several.{listed, All}
 use Rattle.algebra.specs.Polynomial.{value}
 use Rattle.algebra.proofs.Several.{listed-length}
 use Rattle.algebra.proofs.Interpolation.{one-polynomial}
@@ -19,7 +19,7 @@ use Rattle.column.specs.declared.Column.{Column}
 use Rattle.column.specs.Triple.{Triple, triples}
 use Rattle.column.specs.Column as column
 use Rattle.column.specs.Column.{from-seed}
-use Rattle.column.proofs.Laws.{column-laws, numbers}
+use Rattle.column.proofs.Laws.{column-laws}
 use Rattle.code.proofs.Plain.{Small}
 use Rattle.fingerprint.specs.Fingerprint.{columns-of, fingerprint-at}
 use Rattle.fingerprint.proofs.Reading.{columns-in}

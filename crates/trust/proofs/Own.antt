@@ -1,23 +1,17 @@
 -- Every body of a block matches the block's own fingerprints.
-use mathlib.Core.Path.{_≡_, refl, sym, ap, ap₂, subst, _∙_}
-use mathlib.Core.Logic.{_≢_}
-use mathlib.Core.List.{List, [], _∷_, map}
-use Prim.Native.Nat.{ℕ, zero, suc, _+_, _-_, _*_, _/_, _%_, _<_, _≤_}
-use native.Mathlib.Nat.{lt-of-lt-of-le}
-use native.Mathlib.Omega.{arith}
-use lib.ListN.{length, getD}
-use Rattle.algebra.specs.Several.{listed, All, In, Distinct}
-use Rattle.algebra.proofs.Several.{all-at, all-of, all-both}
+use mathlib.Core.Path.{_≡_, sym, subst, _∙_}
+use mathlib.Core.List.{List, map}
+use Prim.Native.Nat.{ℕ, _≤_}
+use Rattle.algebra.specs.Several.{All}
+use Rattle.algebra.proofs.Several.{all-at, all-of}
 use Rattle.column.specs.declared.Column.{Column}
-use Rattle.column.specs.Column.{from-seed}
-use Rattle.column.proofs.Laws.{numbers}
 use Rattle.code.specs.Cutting.{points, body, coefficient-of}
 use Rattle.code.proofs.Plain.{Small}
 use Rattle.code.proofs.Bodies.{points-small, body-small, body-combined, body-length-is, coefficient-small}
-use Rattle.fingerprint.specs.Fingerprint.{fingerprint-at, called-for, Matches}
+use Rattle.fingerprint.specs.Fingerprint.{fingerprint-at, called-for}
 use Rattle.fingerprint.proofs.Combined.{fingerprint-combined}
-use Rattle.trust.specs.Trust.{Bytes, IsColumn, HasAll, own-prints, MatchesAll, Allows}
-use Rattle.trust.proofs.Lifted.{lift, numbers-lift, numbers-same, seed-column, seeds-distinct, print-column, listed-again}
+use Rattle.trust.specs.Trust.{IsColumn}
+use Rattle.trust.proofs.Lifted.{lift, numbers-lift}
 
 -- every body of a block matches the block's own fingerprints at every seed column of bytes
 pub own-match : (m F : ℕ) → m ≤ 256 → (block : List ℕ) → All Small block → (i : ℕ) → Small i → (y : Column) → IsColumn y

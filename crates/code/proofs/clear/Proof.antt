@@ -1,9 +1,9 @@
 -- `code::clear` meets its contract: zero bytes from the front, and behind them what was there.
 use mathlib.Core.Path.{_≡_, ap, _∙_}
-use mathlib.Core.List.{_++_, append-nil}
+use mathlib.Core.List.{_++_}
 use Prim.Native.Nat.{ℕ, _-_, _≤_}
 use native.Mathlib.Omega.{arith}
-use lib.ListN.{length, drop, replicate, set, length-set, drop-of-length-le}
+use lib.ListN.{length, drop, replicate, set, length-set}
 use borrow.Author.Fill.{fill-none, fill-more}
 use borrow.Author.Needs.{needs}
 use Rattle.code.proofs.Sums.{cleared}

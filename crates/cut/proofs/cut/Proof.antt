@@ -1,5 +1,5 @@
 -- `cut` meets its contract: a refusal, or the records and then their check record.
-use mathlib.Core.Path.{_≡_, sym, _∙_}
+use mathlib.Core.Path.{sym, _∙_}
 use native.Mathlib.Omega.{arith}
 use Rattle.cut.specs.Cut.{fragments, check}
 use Rattle.cut.proofs.Records.{check-is}

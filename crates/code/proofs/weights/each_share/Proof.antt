@@ -1,7 +1,6 @@
 -- `code::weights::each_share` meets its contract: the shares are written one by one.
 use Prim.Native.Nat.{_-_, _≤_}
 use native.Mathlib.Omega.{arith}
-use lib.ListN.{length}
 use Rattle.code.specs.Shares.{shares}
 use Rattle.code.proofs.Shares.{shares-length, shares-at}
 use Rattle.code.proofs.Overlays.{Overlaying, none-over, one-over, all-over}

@@ -1,6 +1,5 @@
 -- `Column::from_seed` meets its contract: the two cases of a seed number.
 use mathlib.Core.Path.{sym}
-use native.Mathlib.Omega.{arith}
 use borrow.Author.Needs.{needs}
 use Rattle.column.proofs.Seed.{large-seed, small-seed}
 use Rattle.column.proofs.Column.from_seed.Statement.{statement}

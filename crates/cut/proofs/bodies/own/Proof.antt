@@ -1,6 +1,4 @@
 -- `bodies::own` meets its contract: a start and an end within the block.
-use native.Mathlib.Omega.{arith}
-use native.Mathlib.Nat.{mul-le-mul}
 use Rattle.cut.proofs.Sources.{own-part, place-fits}
 use borrow.Author.Needs.{needs}
 use Rattle.cut.proofs.bodies.own.Statement.{statement}

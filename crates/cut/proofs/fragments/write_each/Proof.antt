@@ -1,5 +1,5 @@
 -- `fragments::write_each` meets its contract: one record for each body.
-use mathlib.Core.Path.{_≡_, ap, _∙_}
+use mathlib.Core.Path.{ap, _∙_}
 use Prim.Native.Nat.{ℕ, _≤_, _+_, _-_, _*_}
 use native.Mathlib.Omega.{arith}
 use Rattle.code.specs.Cutting.{body}

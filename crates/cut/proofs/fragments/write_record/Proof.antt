@@ -1,5 +1,4 @@
 -- `fragments::write_record` meets its contract: the head, and the body behind it.
-use mathlib.Core.Path.{_∙_}
 use native.Mathlib.Omega.{arith}
 use Rattle.cut.proofs.Records.{body-size, rest-room, record-written}
 use borrow.Author.Needs.{needs}

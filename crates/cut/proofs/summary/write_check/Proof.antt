@@ -1,6 +1,6 @@
 -- `summary::write_check` meets its contract: the head, the hashes and the fingerprints.
-use mathlib.Core.Path.{_≡_, sym, ap, _∙_}
-use mathlib.Core.List.{List, []}
+use mathlib.Core.Path.{ap, _∙_}
+use mathlib.Core.List.{List}
 use Prim.Native.Nat.{ℕ, _*_}
 use native.Mathlib.Nat.{mul-le-mul-right}
 use lib.ListN.{length}

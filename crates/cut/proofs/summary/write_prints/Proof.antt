@@ -1,9 +1,7 @@
 -- `summary::write_prints` meets its contract: three bytes for each of the first bodies.
-use mathlib.Core.Path.{_≡_, refl, ap}
-use Prim.Native.Nat.{ℕ, _≤_, _+_, _-_, _*_}
-use lib.ListN.{length}
+use mathlib.Core.Path.{refl, ap}
+use Prim.Native.Nat.{_≤_, _+_, _-_, _*_}
 use native.Mathlib.Omega.{arith}
-use Rattle.column.specs.declared.Column.{Column}
 use Rattle.code.proofs.Walks.{all-small}
 use Rattle.fingerprint.specs.Fingerprint.{fingerprint-at}
 use Rattle.record.specs.Layout.{written-version, record-length, column-bytes}

@@ -1,6 +1,5 @@
 -- `join::block::rebuild` meets its contract: the output is written only where the fill is zero.
 use mathlib.Core.Path.{sym, _∙_}
-use Prim.Native.Nat.{ℕ, _+_, _-_, _*_}
 use native.Mathlib.Omega.{arith}
 use lib.ListN.{length, take, replicate}
 use Rattle.join.proofs.Blocks.{spread-all, block-start, number-keeps, number-gives}

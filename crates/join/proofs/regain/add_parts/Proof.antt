@@ -1,6 +1,6 @@
 -- `join::regain::add_parts` meets its contract: from the last record to the first.
 use mathlib.Core.Path.{refl}
-use Prim.Native.Nat.{ℕ, _+_, _-_, _*_, _≤_}
+use Prim.Native.Nat.{_+_, _-_, _*_, _≤_}
 use native.Mathlib.Omega.{arith}
 use lib.ListN.{length, getD}
 use Rattle.join.proofs.Summing.{Summed, summed-none, summed-skip, summed-more, summed-all, within-at, part-long, part-at}
