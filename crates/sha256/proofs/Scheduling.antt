@@ -2,7 +2,7 @@
 -- the turns over it.
 -- Assumes nothing.
 use mathlib.Core.Path.{_≡_, refl, sym, ap, ap₂, _∙_}
-use Prim.Native.Nat.{ℕ, zero, suc, _+_, _-_, _*_, _≤_, _<_}
+use Prim.Native.Nat.{ℕ, zero, suc, _+_, _-_, _*_, _%_, _≤_, _<_}
 use native.Mathlib.Nat.{add-suc, add-zero}
 use native.Mathlib.Decide.{le-ind}
 use native.Mathlib.Omega.{arith}
@@ -112,27 +112,33 @@ unfoldable pub ring : List ℕ → ℕ → ℕ → List ℕ
 ring l t zero = listed l 16 t 0
 ring l t (suc i) = set (ring l t i) i (getD l (t + (16 + i)) 0)
 
--- in a ring of words one more gives way
-pub replaced : (m : List ℕ) (t i a b c x : ℕ) (w r : List ℕ) → t ≤ 32 → i < 16 → w ≡ r
-    → getD r a 0 ≡ getD (W 64 m) (t + (14 + i)) 0 → getD r b 0 ≡ getD (W 64 m) (t + (9 + i)) 0
-    → getD r c 0 ≡ getD (W 64 m) (t + (1 + i)) 0 → getD r i 0 ≡ getD (W 64 m) (t + i) 0
-    → x ≡ σ₁ (getD w a 0) ⊞ getD w b 0 ⊞ σ₀ (getD w c 0) ⊞ getD w i 0
-    → set w i x ≡ set r i (getD (W 64 m) (t + (16 + i)) 0)
-replaced m t i a b c x w r h k e pa pb pc pd ex = ap₂ (λ (l : List ℕ) (y : ℕ). set l i y) e (ex ∙ read ∙ sym word)
+-- in a ring of words one more gives way: w before and x after it, and r the same ring in words of the schedule
+pub replaced : (m : List ℕ) (t i : ℕ) (w x r : List ℕ) → t ≤ 32 → i < 16
+    → x ≡ set w i (σ₁ (getD w ((i + 14) % 16) 0) ⊞ getD w ((i + 9) % 16) 0 ⊞ σ₀ (getD w ((i + 1) % 16) 0) ⊞ getD w i 0)
+    → getD r ((i + 14) % 16) 0 ≡ getD (W 64 m) (t + (14 + i)) 0 → getD r ((i + 9) % 16) 0 ≡ getD (W 64 m) (t + (9 + i)) 0
+    → getD r ((i + 1) % 16) 0 ≡ getD (W 64 m) (t + (1 + i)) 0 → getD r i 0 ≡ getD (W 64 m) (t + i) 0
+    → w ≡ r → x ≡ set r i (getD (W 64 m) (t + (16 + i)) 0)
+replaced m t i w x r h k e p₂ p₇ p₁₅ p₁₆ same = e ∙ ap made same ∙ ap (set r i) (read ∙ sym word)
   where
     W′ : ℕ → ℕ
     W′ n = getD (W 64 m) n 0
 
-    read : σ₁ (getD w a 0) ⊞ getD w b 0 ⊞ σ₀ (getD w c 0) ⊞ getD w i 0 ≡ σ₁ (W′ (t + (14 + i))) ⊞ W′ (t + (9 + i)) ⊞ σ₀ (W′ (t + (1 + i))) ⊞ W′ (t + i)
+    sum : List ℕ → ℕ
+    sum l = σ₁ (getD l ((i + 14) % 16) 0) ⊞ getD l ((i + 9) % 16) 0 ⊞ σ₀ (getD l ((i + 1) % 16) 0) ⊞ getD l i 0
+
+    made : List ℕ → List ℕ
+    made l = set l i (sum l)
+
+    read : sum r ≡ σ₁ (W′ (t + (14 + i))) ⊞ W′ (t + (9 + i)) ⊞ σ₀ (W′ (t + (1 + i))) ⊞ W′ (t + i)
     read = cc
 
     word : W′ (t + (16 + i)) ≡ σ₁ (W′ (t + (14 + i))) ⊞ W′ (t + (9 + i)) ⊞ σ₀ (W′ (t + (1 + i))) ⊞ W′ (t + i)
     word =
-        let p₂ : t + (16 + i) - 2 ≡ t + (14 + i) = omega arith in
-        let p₇ : t + (16 + i) - 7 ≡ t + (9 + i) = omega arith in
-        let p₁₅ : t + (16 + i) - 15 ≡ t + (1 + i) = omega arith in
-        let p₁₆ : t + (16 + i) - 16 ≡ t + i = omega arith in
-        due m (t + (16 + i)) (omega arith) (omega arith) ∙ cc (p₂, p₇, p₁₅, p₁₆)
+        let q₂ : t + (16 + i) - 2 ≡ t + (14 + i) = omega arith in
+        let q₇ : t + (16 + i) - 7 ≡ t + (9 + i) = omega arith in
+        let q₁₅ : t + (16 + i) - 15 ≡ t + (1 + i) = omega arith in
+        let q₁₆ : t + (16 + i) - 16 ≡ t + i = omega arith in
+        due m (t + (16 + i)) (omega arith) (omega arith) ∙ cc (q₂, q₇, q₁₅, q₁₆)
 
 -- a turn, from the sums in the order in which the code makes them
 pub one-turn : (v : State) (k w : ℕ) {s₁ x c y z t₁ s₀ j t₂ a e : ℕ}

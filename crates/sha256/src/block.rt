@@ -1,8 +1,8 @@
 // The hash value after blocks of 64 bytes: the schedule of words and the 64 turns of each (FIPS 180-4, 6.2.2).
 ghost use mathlib.Core.Path.{_≡_};
-ghost use Prim.Native.Nat.{ℕ, _+_, _<_, _≤_};
+ghost use Prim.Native.Nat.{ℕ, _+_, _%_, _<_, _≤_};
 ghost use mathlib.Core.List.{List};
-ghost use lib.ListN.{length, take, drop};
+ghost use lib.ListN.{length, getD, take, drop, set};
 ghost use Rattle.sha256.specs.declared.State.{State as Fips·State};
 ghost use Rattle.sha256.specs.Fips180.{_⊞_, σ₀, σ₁, word, K as Fips·K, W, turn as Fips·turn, turns, next as Fips·next, Hᴺ};
 use crate::State;
@@ -156,43 +156,28 @@ fn first(m: &[u8]) -> [u32; 16]
     ]
 }
 
-// Sixteen turns. Word i gives way to word i + 16 as soon as its turn is over.
+// Sixteen turns from some turn t on, after which w is the sixteen words from t + 16 on. In a straight line each place is a
+// constant, and no working variable has to be moved for the next turn.
 fn along(s: State, k: &[u32], w: &mut [u32; 16]) -> State
     requires { ⌜ length (now k) ≡ 16 ⌝ }
     ensures { λ r. ⌜ ((m : List ℕ) (v : Fips·State) (t : ℕ) → t ≤ 32 → now (k .entry) ≡ take 16 (drop t Fips·K) → now (w .entry) ≡ take 16 (drop t (W 64 m)) → s ≡ turns t (W 64 m) v → (r ≡ turns (t + 16) (W 64 m) v) × (now (w .exit) ≡ take 16 (drop (t + 16) (W 64 m)))) ⌝ }
 {
-    let v = turn(s, k[0], w[0]);
-    w[0] = scheduled(w[14], w[9], w[1], w[0]);
-    let v = turn(v, k[1], w[1]);
-    w[1] = scheduled(w[15], w[10], w[2], w[1]);
-    let v = turn(v, k[2], w[2]);
-    w[2] = scheduled(w[0], w[11], w[3], w[2]);
-    let v = turn(v, k[3], w[3]);
-    w[3] = scheduled(w[1], w[12], w[4], w[3]);
-    let v = turn(v, k[4], w[4]);
-    w[4] = scheduled(w[2], w[13], w[5], w[4]);
-    let v = turn(v, k[5], w[5]);
-    w[5] = scheduled(w[3], w[14], w[6], w[5]);
-    let v = turn(v, k[6], w[6]);
-    w[6] = scheduled(w[4], w[15], w[7], w[6]);
-    let v = turn(v, k[7], w[7]);
-    w[7] = scheduled(w[5], w[0], w[8], w[7]);
-    let v = turn(v, k[8], w[8]);
-    w[8] = scheduled(w[6], w[1], w[9], w[8]);
-    let v = turn(v, k[9], w[9]);
-    w[9] = scheduled(w[7], w[2], w[10], w[9]);
-    let v = turn(v, k[10], w[10]);
-    w[10] = scheduled(w[8], w[3], w[11], w[10]);
-    let v = turn(v, k[11], w[11]);
-    w[11] = scheduled(w[9], w[4], w[12], w[11]);
-    let v = turn(v, k[12], w[12]);
-    w[12] = scheduled(w[10], w[5], w[13], w[12]);
-    let v = turn(v, k[13], w[13]);
-    w[13] = scheduled(w[11], w[6], w[14], w[13]);
-    let v = turn(v, k[14], w[14]);
-    w[14] = scheduled(w[12], w[7], w[15], w[14]);
-    let v = turn(v, k[15], w[15]);
-    w[15] = scheduled(w[13], w[8], w[0], w[15]);
+    let v = turn_and_word(s, k, w, 0);
+    let v = turn_and_word(v, k, w, 1);
+    let v = turn_and_word(v, k, w, 2);
+    let v = turn_and_word(v, k, w, 3);
+    let v = turn_and_word(v, k, w, 4);
+    let v = turn_and_word(v, k, w, 5);
+    let v = turn_and_word(v, k, w, 6);
+    let v = turn_and_word(v, k, w, 7);
+    let v = turn_and_word(v, k, w, 8);
+    let v = turn_and_word(v, k, w, 9);
+    let v = turn_and_word(v, k, w, 10);
+    let v = turn_and_word(v, k, w, 11);
+    let v = turn_and_word(v, k, w, 12);
+    let v = turn_and_word(v, k, w, 13);
+    let v = turn_and_word(v, k, w, 14);
+    let v = turn_and_word(v, k, w, 15);
     v
 }
 
@@ -201,23 +186,42 @@ fn last(s: State, k: &[u32], w: &[u32; 16]) -> State
     requires { ⌜ length (now k) ≡ 16 ⌝ }
     ensures { λ r. ⌜ ((m : List ℕ) (v : Fips·State) (t : ℕ) → t ≤ 48 → now (k .entry) ≡ take 16 (drop t Fips·K) → now (w .entry) ≡ take 16 (drop t (W 64 m)) → s ≡ turns t (W 64 m) v → r ≡ turns (t + 16) (W 64 m) v) ⌝ }
 {
-    let v = turn(s, k[0], w[0]);
-    let v = turn(v, k[1], w[1]);
-    let v = turn(v, k[2], w[2]);
-    let v = turn(v, k[3], w[3]);
-    let v = turn(v, k[4], w[4]);
-    let v = turn(v, k[5], w[5]);
-    let v = turn(v, k[6], w[6]);
-    let v = turn(v, k[7], w[7]);
-    let v = turn(v, k[8], w[8]);
-    let v = turn(v, k[9], w[9]);
-    let v = turn(v, k[10], w[10]);
-    let v = turn(v, k[11], w[11]);
-    let v = turn(v, k[12], w[12]);
-    let v = turn(v, k[13], w[13]);
-    let v = turn(v, k[14], w[14]);
-    let v = turn(v, k[15], w[15]);
+    let v = turn_at(s, k, w, 0);
+    let v = turn_at(v, k, w, 1);
+    let v = turn_at(v, k, w, 2);
+    let v = turn_at(v, k, w, 3);
+    let v = turn_at(v, k, w, 4);
+    let v = turn_at(v, k, w, 5);
+    let v = turn_at(v, k, w, 6);
+    let v = turn_at(v, k, w, 7);
+    let v = turn_at(v, k, w, 8);
+    let v = turn_at(v, k, w, 9);
+    let v = turn_at(v, k, w, 10);
+    let v = turn_at(v, k, w, 11);
+    let v = turn_at(v, k, w, 12);
+    let v = turn_at(v, k, w, 13);
+    let v = turn_at(v, k, w, 14);
+    let v = turn_at(v, k, w, 15);
     v
+}
+
+// Turn i of sixteen, and then the word that is due sixteen turns later, in the place of the one that is done with.
+fn turn_and_word(v: State, k: &[u32], w: &mut [u32; 16], i: usize) -> State
+    requires { ⌜ (length (now k) ≡ 16) × (i < 16) ⌝ }
+    ensures { λ r. ⌜ r ≡ Fips·turn v (getD (now (k .entry)) i 0) (getD (now (w .entry)) i 0) ⌝ }
+    ensures { λ r. ⌜ now (w .exit) ≡ set (now (w .entry)) i (σ₁ (getD (now (w .entry)) ((i + 14) % 16) 0) ⊞ getD (now (w .entry)) ((i + 9) % 16) 0 ⊞ σ₀ (getD (now (w .entry)) ((i + 1) % 16) 0) ⊞ getD (now (w .entry)) i 0) ⌝ }
+{
+    let r = turn(v, k[i], w[i]);
+    w[i] = scheduled(w[(i + 14) % 16], w[(i + 9) % 16], w[(i + 1) % 16], w[i]);
+    r
+}
+
+// Turn i of sixteen.
+fn turn_at(v: State, k: &[u32], w: &[u32; 16], i: usize) -> State
+    requires { ⌜ (length (now k) ≡ 16) × (i < 16) ⌝ }
+    ensures { λ r. ⌜ r ≡ Fips·turn v (getD (now (k .entry)) i 0) (getD (now (w .entry)) i 0) ⌝ }
+{
+    turn(v, k[i], w[i])
 }
 
 // A word of the schedule, from those 2, 7, 15 and 16 before it.
