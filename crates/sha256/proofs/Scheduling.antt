@@ -1,6 +1,5 @@
--- The schedule made a word at a time: word t hangs on the words before it alone, and a word that is made stays as it is; and
--- the turns over it.
--- Assumes nothing.
+-- The schedule in a ring of sixteen words, in which each word gives way, after its turn, to the one that is due sixteen turns
+-- later; and the turns over it. Assumes nothing.
 use mathlib.Core.Path.{_≡_, refl, sym, ap, ap₂, _∙_}
 use Prim.Native.Nat.{ℕ, zero, suc, _+_, _-_, _*_, _%_, _≤_, _<_}
 use native.Mathlib.Nat.{add-suc, add-zero}
@@ -9,16 +8,12 @@ use native.Mathlib.Omega.{arith}
 use mathlib.Core.List.{List, [], _∷_, _++_}
 use lib.ListN.{length, getD, take, drop, set, length-append, length-drop, List·getD-append}
 use lib.Seq.{drop-cons, getD-at, take-all, take-append-le, length-take-le}
-use borrow.Author.Tests.{lt-ltb, le-ltb}
+use borrow.Author.Tests.{le-ltb}
 use Rattle.sha256.specs.declared.State.{State}
 use Rattle.sha256.specs.Fips180.{_⊞_, word, Ch, Maj, Σ₀, Σ₁, σ₀, σ₁, K, Wₜ, W, turn, turns}
 
--- the two cases of the definition
-pub early : (m w : List ℕ) (t : ℕ) → t < 16 → Wₜ m w t ≡ word m (4 * t)
-unfolding Wₜ
-early m w t h = simp (lt-ltb t 16 h)
-
-pub late : (m w : List ℕ) (t : ℕ) → 16 ≤ t
+-- the second case of the definition
+late : (m w : List ℕ) (t : ℕ) → 16 ≤ t
     → Wₜ m w t ≡ σ₁ (getD w (t - 2) 0) ⊞ getD w (t - 7) 0 ⊞ σ₀ (getD w (t - 15) 0) ⊞ getD w (t - 16) 0
 unfolding Wₜ
 late m w t h = simp (le-ltb t 16 h)
@@ -52,7 +47,7 @@ place : (m : List ℕ) (t n : ℕ) → t < n → n ≤ 64 → getD (W n m) t 0 �
 place m t n h k = kept m t n h ∙ sym (kept m t 64 (omega arith))
 
 -- each word past the sixteenth, from four before it
-pub due : (m : List ℕ) (t : ℕ) → 16 ≤ t → t < 64
+due : (m : List ℕ) (t : ℕ) → 16 ≤ t → t < 64
     → getD (W 64 m) t 0 ≡ σ₁ (getD (W 64 m) (t - 2) 0) ⊞ getD (W 64 m) (t - 7) 0 ⊞ σ₀ (getD (W 64 m) (t - 15) 0) ⊞ getD (W 64 m) (t - 16) 0
 unfolding W
 due m t h k =
@@ -113,7 +108,7 @@ ring l t zero = listed l 16 t 0
 ring l t (suc i) = set (ring l t i) i (getD l (t + (16 + i)) 0)
 
 -- in a ring of words one more gives way: w before and x after it, and r the same ring in words of the schedule
-pub replaced : (m : List ℕ) (t i : ℕ) (w x r : List ℕ) → t ≤ 32 → i < 16
+replaced : (m : List ℕ) (t i : ℕ) (w x r : List ℕ) → t ≤ 32 → i < 16
     → x ≡ set w i (σ₁ (getD w ((i + 14) % 16) 0) ⊞ getD w ((i + 9) % 16) 0 ⊞ σ₀ (getD w ((i + 1) % 16) 0) ⊞ getD w i 0)
     → getD r ((i + 14) % 16) 0 ≡ getD (W 64 m) (t + (14 + i)) 0 → getD r ((i + 9) % 16) 0 ≡ getD (W 64 m) (t + (9 + i)) 0
     → getD r ((i + 1) % 16) 0 ≡ getD (W 64 m) (t + (1 + i)) 0 → getD r i 0 ≡ getD (W 64 m) (t + i) 0
@@ -157,3 +152,26 @@ pub turned : (w : List ℕ) (s : State) (t i : ℕ) (x y : State) (k v : ℕ)
     → y ≡ turn x k v → x ≡ turns (t + i) w s → k ≡ getD K (t + i) 0 → v ≡ getD w (t + i) 0 → y ≡ turns (t + suc i) w s
 unfolding turns
 turned w s t i x y k v e ex ek ev = rw add-suc (cc)
+
+-- after i of sixteen turns from turn t on: the working variables, and the ring
+pub record After (m : List ℕ) (s : State) (t i : ℕ) (v : State) (w : List ℕ) : Type 0 where
+  pub variables : v ≡ turns (t + i) (W 64 m) s
+  pub words-left : w ≡ ring (W 64 m) t i
+
+-- one of the sixteen; at a given i the five equations on what stands at a place go by computing
+pub further : (m : List ℕ) (s : State) (t i : ℕ) (k : List ℕ) (v v′ : State) (w w′ : List ℕ) → t ≤ 32 → i < 16
+    → k ≡ listed K 16 t 0 → getD (listed K 16 t 0) i 0 ≡ getD K (t + i) 0
+    → getD (ring (W 64 m) t i) ((i + 14) % 16) 0 ≡ getD (W 64 m) (t + (14 + i)) 0
+    → getD (ring (W 64 m) t i) ((i + 9) % 16) 0 ≡ getD (W 64 m) (t + (9 + i)) 0
+    → getD (ring (W 64 m) t i) ((i + 1) % 16) 0 ≡ getD (W 64 m) (t + (1 + i)) 0
+    → getD (ring (W 64 m) t i) i 0 ≡ getD (W 64 m) (t + i) 0
+    → v′ ≡ turn v (getD k i 0) (getD w i 0)
+    → w′ ≡ set w i (σ₁ (getD w ((i + 14) % 16) 0) ⊞ getD w ((i + 9) % 16) 0 ⊞ σ₀ (getD w ((i + 1) % 16) 0) ⊞ getD w i 0)
+    → After m s t i v w → After m s t (suc i) v′ w′
+unfolding ring
+further m s t i k v v′ w w′ h b ek pk p₂ p₇ p₁₅ p₁₆ ev ew a =
+    record {
+      variables = turned (W 64 m) s t i v v′ (getD k i 0) (getD w i 0) ev (a .variables)
+          (ap (λ (l : List ℕ). getD l i 0) ek ∙ pk) (ap (λ (l : List ℕ). getD l i 0) (a .words-left) ∙ p₁₆);
+      words-left = replaced m t i w w′ (ring (W 64 m) t i) h b ew p₂ p₇ p₁₅ p₁₆ (a .words-left);
+    }

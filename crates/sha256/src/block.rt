@@ -105,7 +105,7 @@ pub(crate) fn absorb(s: State, m: &[u8]) -> State
     v
 }
 
-// The hash value after s and one block. Of the schedule only the sixteen words from t on are kept.
+// The hash value after s and one block. Of the schedule only the sixteen words from t on are kept: word t + i is w[i].
 fn next(s: State, k: &[u32], m: &[u8]) -> State
     requires { ⌜ (now k ≡ Fips·K) × (length (now m) ≡ 64) ⌝ }
     ensures { λ r. ⌜ r ≡ Fips·next s (now (m .entry)) ⌝ }
@@ -156,8 +156,7 @@ fn first(m: &[u8]) -> [u32; 16]
     ]
 }
 
-// Sixteen turns from some turn t on, after which w is the sixteen words from t + 16 on. In a straight line each place is a
-// constant, and no working variable has to be moved for the next turn.
+// Sixteen turns; w goes from the words of these to those of the next sixteen. In a straight line no variable is ever moved.
 fn along(s: State, k: &[u32], w: &mut [u32; 16]) -> State
     requires { ⌜ length (now k) ≡ 16 ⌝ }
     ensures { λ r. ⌜ ((m : List ℕ) (v : Fips·State) (t : ℕ) → t ≤ 32 → now (k .entry) ≡ take 16 (drop t Fips·K) → now (w .entry) ≡ take 16 (drop t (W 64 m)) → s ≡ turns t (W 64 m) v → (r ≡ turns (t + 16) (W 64 m) v) × (now (w .exit) ≡ take 16 (drop (t + 16) (W 64 m)))) ⌝ }
@@ -205,7 +204,7 @@ fn last(s: State, k: &[u32], w: &[u32; 16]) -> State
     v
 }
 
-// Turn i of sixteen, and then the word that is due sixteen turns later, in the place of the one that is done with.
+// Turn i of sixteen; the word that is due sixteen turns later then takes the place of the one that was read.
 fn turn_and_word(v: State, k: &[u32], w: &mut [u32; 16], i: usize) -> State
     requires { ⌜ (length (now k) ≡ 16) × (i < 16) ⌝ }
     ensures { λ r. ⌜ r ≡ Fips·turn v (getD (now (k .entry)) i 0) (getD (now (w .entry)) i 0) ⌝ }

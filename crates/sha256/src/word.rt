@@ -1,4 +1,5 @@
-// The rotation and the six functions on words of 32 bits (FIPS 180-4, 3.2 and 4.1.2).
+// The rotation and the six functions on words of 32 bits (FIPS 180-4, 3.2 and 4.1.2). The six are written with the fewest
+// operations: a rotation by 13 is one by 2 of one by 11. `proofs/Shorter.antt` shows that they are the standard's.
 ghost use mathlib.Core.Path.{_≡_};
 ghost use Prim.Native.Nat.{_<_};
 ghost use Rattle.sha256.specs.Fips180.{ROTR, Ch as Fips·Ch, Maj as Fips·Maj, Σ₀, Σ₁, σ₀, σ₁};
