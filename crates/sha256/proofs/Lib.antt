@@ -1,3 +1,4 @@
+pub mod Shorter
 pub mod Scheduling
 pub mod Ending
 pub mod Pieces

@@ -1,8 +1,10 @@
 // The hash value after blocks of 64 bytes: the schedule of words and the 64 turns of each (FIPS 180-4, 6.2.2).
 ghost use mathlib.Core.Path.{_≡_};
-ghost use Prim.Native.Nat.{_+_, _<_, _≤_};
-ghost use lib.ListN.{length};
-ghost use Rattle.sha256.specs.Fips180.{word, Wₜ, turn as Fips·turn, next as Fips·next, Hᴺ};
+ghost use Prim.Native.Nat.{ℕ, _+_, _%_, _<_, _≤_};
+ghost use mathlib.Core.List.{List};
+ghost use lib.ListN.{length, getD, take, drop, set};
+ghost use Rattle.sha256.specs.declared.State.{State as Fips·State};
+ghost use Rattle.sha256.specs.Fips180.{_⊞_, σ₀, σ₁, word, K as Fips·K, W, turn as Fips·turn, turns, next as Fips·next, Hᴺ};
 use crate::State;
 use crate::word::ch;
 use crate::word::lower_sigma_0;
@@ -83,39 +85,40 @@ const K: [u32; 64] = [
 pub fn step(s: State, block: &[u8; 64]) -> State
     ensures { λ r. ⌜ r ≡ Fips·next s (now (block .entry)) ⌝ }
 {
-    next(s, block)
+    next(s, &K, block)
 }
 
 // The hash value after the whole blocks of m, which are read where they lie; what is left past them is not looked at.
 pub(crate) fn absorb(s: State, m: &[u8]) -> State
     ensures { λ r. ⌜ r ≡ Hᴺ s (now (m .entry)) ⌝ }
 {
+    let k = &K;
     let n = m.len() / 64;
     let mut v = s;
     let mut i = 0;
     while i < n {
         let at = 64 * i;
         let e = at + 64;
-        v = next(v, &m[at..e]);
+        v = next(v, k, &m[at..e]);
         i += 1;
     }
     v
 }
 
-// The hash value after s and one block. Each word of the schedule is made in the turn that needs it.
-fn next(s: State, m: &[u8]) -> State
-    requires { ⌜ length (now m) ≡ 64 ⌝ }
+// The hash value after s and one block. Of the schedule only the sixteen words from t on are kept: word t + i is w[i].
+fn next(s: State, k: &[u32], m: &[u8]) -> State
+    requires { ⌜ (now k ≡ Fips·K) × (length (now m) ≡ 64) ⌝ }
     ensures { λ r. ⌜ r ≡ Fips·next s (now (m .entry)) ⌝ }
 {
-    let k = &K;
-    let mut w = [0u32; 64];
+    let mut w = first(m);
     let mut v = s;
     let mut t = 0;
-    while t < 64 {
-        w[t] = scheduled(m, &w, t);
-        v = turn(v, k[t], w[t]);
-        t += 1;
+    while t < 48 {
+        let e = t + 16;
+        v = along(v, &k[t..e], &mut w);
+        t = e;
     }
+    let v = last(v, &k[48..], &w);
     State {
         a: wrapping_add_u32(v.a, s.a),
         b: wrapping_add_u32(v.b, s.b),
@@ -128,17 +131,105 @@ fn next(s: State, m: &[u8]) -> State
     }
 }
 
-// Word t of the schedule, from the block m and the words before it.
-fn scheduled(m: &[u8], w: &[u32; 64], t: usize) -> u32
-    requires { ⌜ (length (now m) ≡ 64) × (t < 64) ⌝ }
-    ensures { λ r. ⌜ r ≡ Wₜ (now (m .entry)) (now (w .entry)) t ⌝ }
+// The first sixteen words of the schedule of the block m.
+fn first(m: &[u8]) -> [u32; 16]
+    requires { ⌜ length (now m) ≡ 64 ⌝ }
+    ensures { λ r. ⌜ r ≡ W 16 (now (m .entry)) ⌝ }
 {
-    if t < 16 {
-        return word_at(m, 4 * t);
-    }
-    let x = wrapping_add_u32(lower_sigma_1(w[t - 2]), w[t - 7]);
-    let y = wrapping_add_u32(x, lower_sigma_0(w[t - 15]));
-    wrapping_add_u32(y, w[t - 16])
+    [
+        word_at(m, 0),
+        word_at(m, 4),
+        word_at(m, 8),
+        word_at(m, 12),
+        word_at(m, 16),
+        word_at(m, 20),
+        word_at(m, 24),
+        word_at(m, 28),
+        word_at(m, 32),
+        word_at(m, 36),
+        word_at(m, 40),
+        word_at(m, 44),
+        word_at(m, 48),
+        word_at(m, 52),
+        word_at(m, 56),
+        word_at(m, 60),
+    ]
+}
+
+// Sixteen turns; w goes from the words of these to those of the next sixteen. In a straight line no variable is ever moved.
+fn along(s: State, k: &[u32], w: &mut [u32; 16]) -> State
+    requires { ⌜ length (now k) ≡ 16 ⌝ }
+    ensures { λ r. ⌜ ((m : List ℕ) (v : Fips·State) (t : ℕ) → t ≤ 32 → now (k .entry) ≡ take 16 (drop t Fips·K) → now (w .entry) ≡ take 16 (drop t (W 64 m)) → s ≡ turns t (W 64 m) v → (r ≡ turns (t + 16) (W 64 m) v) × (now (w .exit) ≡ take 16 (drop (t + 16) (W 64 m)))) ⌝ }
+{
+    let v = turn_and_word(s, k, w, 0);
+    let v = turn_and_word(v, k, w, 1);
+    let v = turn_and_word(v, k, w, 2);
+    let v = turn_and_word(v, k, w, 3);
+    let v = turn_and_word(v, k, w, 4);
+    let v = turn_and_word(v, k, w, 5);
+    let v = turn_and_word(v, k, w, 6);
+    let v = turn_and_word(v, k, w, 7);
+    let v = turn_and_word(v, k, w, 8);
+    let v = turn_and_word(v, k, w, 9);
+    let v = turn_and_word(v, k, w, 10);
+    let v = turn_and_word(v, k, w, 11);
+    let v = turn_and_word(v, k, w, 12);
+    let v = turn_and_word(v, k, w, 13);
+    let v = turn_and_word(v, k, w, 14);
+    let v = turn_and_word(v, k, w, 15);
+    v
+}
+
+// The last sixteen turns, after which no word is due.
+fn last(s: State, k: &[u32], w: &[u32; 16]) -> State
+    requires { ⌜ length (now k) ≡ 16 ⌝ }
+    ensures { λ r. ⌜ ((m : List ℕ) (v : Fips·State) (t : ℕ) → t ≤ 48 → now (k .entry) ≡ take 16 (drop t Fips·K) → now (w .entry) ≡ take 16 (drop t (W 64 m)) → s ≡ turns t (W 64 m) v → r ≡ turns (t + 16) (W 64 m) v) ⌝ }
+{
+    let v = turn_at(s, k, w, 0);
+    let v = turn_at(v, k, w, 1);
+    let v = turn_at(v, k, w, 2);
+    let v = turn_at(v, k, w, 3);
+    let v = turn_at(v, k, w, 4);
+    let v = turn_at(v, k, w, 5);
+    let v = turn_at(v, k, w, 6);
+    let v = turn_at(v, k, w, 7);
+    let v = turn_at(v, k, w, 8);
+    let v = turn_at(v, k, w, 9);
+    let v = turn_at(v, k, w, 10);
+    let v = turn_at(v, k, w, 11);
+    let v = turn_at(v, k, w, 12);
+    let v = turn_at(v, k, w, 13);
+    let v = turn_at(v, k, w, 14);
+    let v = turn_at(v, k, w, 15);
+    v
+}
+
+// Turn i of sixteen; the word that is due sixteen turns later then takes the place of the one that was read.
+fn turn_and_word(v: State, k: &[u32], w: &mut [u32; 16], i: usize) -> State
+    requires { ⌜ (length (now k) ≡ 16) × (i < 16) ⌝ }
+    ensures { λ r. ⌜ r ≡ Fips·turn v (getD (now (k .entry)) i 0) (getD (now (w .entry)) i 0) ⌝ }
+    ensures { λ r. ⌜ now (w .exit) ≡ set (now (w .entry)) i (σ₁ (getD (now (w .entry)) ((i + 14) % 16) 0) ⊞ getD (now (w .entry)) ((i + 9) % 16) 0 ⊞ σ₀ (getD (now (w .entry)) ((i + 1) % 16) 0) ⊞ getD (now (w .entry)) i 0) ⌝ }
+{
+    let r = turn(v, k[i], w[i]);
+    w[i] = scheduled(w[(i + 14) % 16], w[(i + 9) % 16], w[(i + 1) % 16], w[i]);
+    r
+}
+
+// Turn i of sixteen.
+fn turn_at(v: State, k: &[u32], w: &[u32; 16], i: usize) -> State
+    requires { ⌜ (length (now k) ≡ 16) × (i < 16) ⌝ }
+    ensures { λ r. ⌜ r ≡ Fips·turn v (getD (now (k .entry)) i 0) (getD (now (w .entry)) i 0) ⌝ }
+{
+    turn(v, k[i], w[i])
+}
+
+// A word of the schedule, from those 2, 7, 15 and 16 before it.
+fn scheduled(w2: u32, w7: u32, w15: u32, w16: u32) -> u32
+    ensures { λ r. ⌜ r ≡ σ₁ w2 ⊞ w7 ⊞ σ₀ w15 ⊞ w16 ⌝ }
+{
+    let x = wrapping_add_u32(lower_sigma_1(w2), w7);
+    let y = wrapping_add_u32(x, lower_sigma_0(w15));
+    wrapping_add_u32(y, w16)
 }
 
 // One turn on the eight words, with its constant and its word.

@@ -1,8 +1,11 @@
--- `sha256::word::upper_sigma_0` meets its contract: its rotations are those of the definition. Assumes nothing.
+-- `sha256::word::upper_sigma_0` meets its contract: a rotation inside another is one by the sum. Assumes nothing.
 use borrow.Author.Needs.{needs}
-use mathlib.Core.Path.{ap₂}
+use native.Mathlib.Omega.{arith}
+use mathlib.Core.Path.{ap, _∙_}
+use Prim.Native.Nat.{ℕ}
 use lib.Bits.{bitXor}
-use Rattle.sha256.specs.Fips180.{Σ₀}
+use Rattle.sha256.proofs.Shorter.{three}
+use Rattle.sha256.specs.Fips180.{ROTR, Σ₀}
 use Rattle.sha256.proofs.word.upper_sigma_0.Statement.{statement}
 use Rattle.sha256.proofs.word.upper_sigma_0.Tie as tie
 
@@ -17,7 +20,12 @@ rotr-requires-3 c κs = search needs
 
 returns : tie.Need-returns
 unfolding Σ₀
-returns c = ap₂ bitXor (ap₂ bitXor (c .before .before .rotr .ensures) (c .before .rotr2 .ensures)) (c .rotr3 .ensures)
+returns c =
+    let s = c .before .before .before in
+    let x = s .args .x in
+    c .rotr3 .ensures
+    ∙ ap (λ (y : ℕ). ROTR 2 (bitXor x y)) (c .before .rotr2 .ensures ∙ ap (λ (y : ℕ). ROTR 11 (bitXor x y)) (c .before .before .rotr .ensures))
+    ∙ three 2 11 9 x (omega arith) (s .fits .x .fits)
 
 pub upper-sigma-0-spec : {M : Type 1} → statement M
 upper-sigma-0-spec = tie.close (tie.spec rotr-requires rotr-requires-2 rotr-requires-3 returns)
