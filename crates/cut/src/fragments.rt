@@ -1,7 +1,7 @@
 // The n fragment records of a block, end to end.
-use crate::WRITTEN;
 use crate::bodies::write_body;
 use record::FragmentHead;
+use record::WRITTEN_VERSION;
 ghost use mathlib.Core.Path.{_≡_};
 ghost use mathlib.Core.List.{map};
 ghost use Prim.Native.Nat.{_*_, _≤_};
@@ -55,13 +55,13 @@ fn write_each(
     requires { ⌜ length (now fragments) ≡ n * layout.record-length layout.written-version size ⌝ }
     ensures { λ r. ⌜ now (fragments .exit) ≡ end-to-end (listed n (λ i. records.fragment-record layout.written-version number i (cutting.body m size (now (block .entry)) i))) ⌝ }
 {
-    let step = record::record_length(WRITTEN, size);
+    let step = record::record_length(WRITTEN_VERSION, size);
     let mut index: u8 = 0;
     while index < n {
         let start = (index as usize) * step;
         let end = start + step;
         let head = FragmentHead {
-            version: WRITTEN,
+            version: WRITTEN_VERSION,
             number,
             index,
             size,

@@ -12,9 +12,6 @@ ghost use Rattle.cut.specs.Cut as cut;
 pub use standard::card_size;
 pub use standard::cut_standard;
 
-// The version that is written.
-pub(crate) const WRITTEN: u16 = record::WRITTEN_VERSION;
-
 // A number of the table of what comes back, and how many bytes a card has to hold; beside a refusal 0.
 pub struct CardSize {
     pub number: u32,

@@ -1,5 +1,5 @@
 // When a cut is refused.
-use crate::WRITTEN;
+use record::WRITTEN_VERSION;
 ghost use mathlib.Core.Path.{_≡_};
 ghost use Rattle.cut.specs.Cut as cut;
 
@@ -24,10 +24,10 @@ pub(crate) fn refusal(
         return 3;
     }
     let size = code::body_length(block.len() as u32, m as u8);
-    if fragments.len() != (n as usize) * record::record_length(WRITTEN, size as u32) {
+    if fragments.len() != (n as usize) * record::record_length(WRITTEN_VERSION, size as u32) {
         return 4;
     }
-    if check.len() != record::check_length(WRITTEN, m as u8, n as u8) {
+    if check.len() != record::check_length(WRITTEN_VERSION, m as u8, n as u8) {
         return 4;
     }
     0

@@ -1,6 +1,6 @@
 // The standard setting, and what relies on it.
 use crate::CardSize;
-use crate::WRITTEN;
+use record::WRITTEN_VERSION;
 ghost use mathlib.Core.Path.{_≡_};
 ghost use Rattle.cut.specs.Cut as cut;
 ghost use Rattle.cut.specs.Standard as standard;
@@ -42,6 +42,6 @@ pub fn card_size(length: u64) -> CardSize
     let size = code::body_length(length as u32, STANDARD_M);
     CardSize {
         number: 0,
-        size: record::record_length(WRITTEN, size as u32) as u64,
+        size: record::record_length(WRITTEN_VERSION, size as u32) as u64,
     }
 }

@@ -1,7 +1,7 @@
 // The check record of n fragment records, from the bodies where they stand.
-use crate::WRITTEN;
 use column::Column;
 use record::CheckHead;
+use record::WRITTEN_VERSION;
 ghost use mathlib.Core.Path.{_≡_};
 ghost use Prim.Native.Nat.{_+_, _*_, _≤_};
 ghost use lib.ListN.{length};
@@ -33,7 +33,7 @@ pub(crate) fn write_check(
     record::write_check_head(
         check,
         CheckHead {
-            version: WRITTEN,
+            version: WRITTEN_VERSION,
             number,
             length,
             m,
@@ -41,8 +41,8 @@ pub(crate) fn write_check(
             seed: y,
         },
     );
-    let hashes = record::hash_place(WRITTEN, 0);
-    let prints = record::prints_place(WRITTEN, n);
+    let hashes = record::hash_place(WRITTEN_VERSION, 0);
+    let prints = record::prints_place(WRITTEN_VERSION, n);
     write_hashes(&mut check[hashes..prints], n, size, fragments);
     write_prints(&mut check[prints..], m, size, y, fragments);
 }
@@ -86,8 +86,8 @@ fn body_among(size: u32, fragments: &[u8], index: u8) -> &[u8]
     requires { ⌜ index * layout.record-length layout.written-version size + layout.record-length layout.written-version size ≤ length (now fragments) ⌝ }
     ensures { λ r. ⌜ now r ≡ cut.body-among size (now (fragments .entry)) index ⌝ }
 {
-    let start = (index as usize) * record::record_length(WRITTEN, size)
-        + record::body_place(WRITTEN);
+    let start = (index as usize) * record::record_length(WRITTEN_VERSION, size)
+        + record::body_place(WRITTEN_VERSION);
     let end = start + size as usize;
     &fragments[start..end]
 }

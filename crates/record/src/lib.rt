@@ -1,5 +1,5 @@
 // The two records of document 01, written and read.
-// `WRITTEN_VERSION`, and by version the places and lengths: `hash_place`, `prints_place`, `check_length`, `body_place`, `record_length`.
+// `CHECK_MARK`, `FRAGMENT_MARK`, `WRITTEN_VERSION`, and by version the places and lengths: `hash_place`, `prints_place`, `check_length`, `body_place`, `record_length`.
 // Reading: `byte_at`, `read_check`, `read_fragment`; what lies past the end reads as zero.
 // The tests that refuse by 1, 5, 6 and 8: `counts_fit`, `check_marked`, `check_shaped`, `fragment_shaped`.
 // Writing: `put`, `write_check_head`, `write_fragment_head`; a buffer that is too short holds what it held.
@@ -10,6 +10,8 @@ mod shape;
 mod write;
 
 use column::Column;
+pub use places::CHECK_MARK;
+pub use places::FRAGMENT_MARK;
 pub use places::WRITTEN_VERSION;
 pub use places::body_place;
 pub use places::check_length;

@@ -8,9 +8,9 @@ ghost use Rattle.record.specs.Layout as layout;
 pub const WRITTEN_VERSION: u16 = 1;
 
 // In every version.
-pub(crate) const CHECK_MARK: [u8; 3] = [b'L', b'C', b'K'];
+pub const CHECK_MARK: [u8; 3] = [b'L', b'C', b'K'];
 
-pub(crate) const FRAGMENT_MARK: [u8; 3] = [b'L', b'F', b'R'];
+pub const FRAGMENT_MARK: [u8; 3] = [b'L', b'F', b'R'];
 
 pub(crate) const VERSION_AT: usize = 3;
 

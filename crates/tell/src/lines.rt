@@ -2,17 +2,15 @@
 use crate::text::add_line;
 use column::Column;
 use join::Joined;
+use record::CHECK_MARK;
 use record::CheckHead;
+use record::FRAGMENT_MARK;
 ghost use mathlib.Core.Path.{_≡_};
 ghost use mathlib.Core.List.{_++_, _∷_, []};
 ghost use Prim.Native.Nat.{_+_, _<_, _≤_};
 ghost use lib.ListN.{length};
 ghost use Rattle.tell.specs.Lines as lines;
 ghost use Rattle.tell.specs.Parts.{placed};
-
-const CHECK_MARK: [u8; 3] = [b'L', b'C', b'K'];
-
-const FRAGMENT_MARK: [u8; 3] = [b'L', b'F', b'R'];
 
 const JOIN_MARK: [u8; 3] = [b'D', b'E', b'C'];
 
