@@ -1,7 +1,6 @@
 -- `sha256::block::turn` meets its contract: each sum is that of the definition. Assumes nothing.
 use borrow.Author.Needs.{needs}
 use Rattle.sha256.proofs.Scheduling.{one-turn}
-use Rattle.sha256.specs.Fips180.{turn}
 use Rattle.sha256.proofs.block.turn.Statement.{statement}
 use Rattle.sha256.proofs.block.turn.Tie as tie
 
