@@ -1,4 +1,3 @@
-pub mod Adding
 pub mod Cutting
 pub mod Joining
 pub mod Shares

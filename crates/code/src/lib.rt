@@ -1,18 +1,21 @@
 // The m-of-n code: how long a body is, how much each of the first m bodies counts in a body, how much each of any bodies counts in
-// another, and the one inner loop that adds a multiple of a body to a sum. No function asks anything of its caller.
+// another, and the sum of bodies, to which a multiple of one is added at a time. No function asks anything of its caller.
 mod weights;
 
 ghost use mathlib.Core.Path.{_≡_};
 ghost use Prim.Native.Nat.{min};
 ghost use lib.ListN.{length, replicate};
 ghost use Rattle.algebra.specs.Polynomial as polynomial;
+ghost use Rattle.field.specs.Adding as adding;
 ghost use Rattle.field.specs.Byte.{bytes, inverse};
 ghost use Rattle.code.specs.Cutting as cutting;
 ghost use Rattle.code.specs.Weights as weights;
-ghost use Rattle.code.specs.Adding as adding;
 pub use weights::coefficients;
 pub use weights::each_share;
 pub use weights::each_spread;
+
+// Below this a row of 256 products costs more than the body's own products, one by one: the two meet between 200 and 400 bytes.
+const SHORT: usize = 192;
 
 // F for a block of `length` bytes; 0 where m is 0.
 pub fn body_length(length: u32, m: u8) -> usize
@@ -85,6 +88,10 @@ pub fn clear(sum: &mut [u8])
 pub fn add_scaled(sum: &mut [u8], body: &[u8], by: u8)
     ensures { λ r. ⌜ now (sum .exit) ≡ adding.added by (now (sum .entry)) (now (body .entry)) ⌝ }
 {
+    if body.len() < SHORT {
+        field::add_products(sum, body, by);
+        return;
+    }
     let row = field::row(by);
     let end = shorter(sum.len(), body.len());
     let mut k = 0;

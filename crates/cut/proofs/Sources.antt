@@ -11,13 +11,13 @@ use lib.Seq.{take-all, getD-take, getD-drop}
 use Rattle.algebra.specs.Several.{All}
 use Rattle.algebra.specs.Combination.{combined, itself}
 use Rattle.algebra.proofs.Several.{listed-at}
+use Rattle.field.specs.Adding.{added}
 use Rattle.field.specs.Byte.{plus, times, bytes}
+use Rattle.field.proofs.Added.{added-length, added-at}
 use Rattle.field.proofs.Sum.{plus-comm}
-use Rattle.code.specs.Adding.{added}
 use Rattle.code.specs.Cutting.{points, source, byte-of, body, coefficient-of}
 use Rattle.code.proofs.Plain.{Small}
 use Rattle.code.proofs.Bodies.{byte-own, byte-combined, points-length}
-use Rattle.code.proofs.Sums.{added-length, added-at}
 use Rattle.code.proofs.Walks.{listed-all, dropped}
 use Rattle.record.specs.Put.{put}
 use Rattle.record.proofs.Buffer.{put-fits}

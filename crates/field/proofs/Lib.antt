@@ -1,3 +1,4 @@
+pub mod Added
 pub mod Additive
 pub mod Byte
 pub mod Cases

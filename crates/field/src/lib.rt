@@ -1,9 +1,11 @@
-// The bytes as the field of FIPS 197: sum, product, inverse and quotient of two bytes, and the row of all products by one byte.
-// Products stand on one table of the powers of 03; those over many points add up places and read each table once. No public function
-// asks anything of its caller.
+// The bytes as the field of FIPS 197: sum, product, inverse and quotient of two bytes, the row of all products by one byte, and a
+// multiple of some bytes added to others. Products stand on one table of the powers of 03; a function of many products reads each
+// table once. No public function asks anything of its caller.
+mod adding;
 mod many;
 mod tables;
 
+pub use adding::add_products;
 pub use many::nodal;
 pub use many::spread_but;
 use tables::place;

@@ -9,12 +9,12 @@ use lib.Seq.{ext-getD, getD-take, getD-drop}
 use Rattle.algebra.specs.Several.{listed, All}
 use Rattle.algebra.specs.Combination.{combined, itself}
 use Rattle.algebra.proofs.Several.{all-at, listed-length, listed-at}
+use Rattle.field.specs.Adding.{added}
 use Rattle.field.specs.Byte.{bytes, plus, times}
+use Rattle.field.proofs.Added.{added-length, added-at}
 use Rattle.field.proofs.Sum.{plus-comm, none-plus}
 use Rattle.field.proofs.Product.{none-times}
-use Rattle.code.specs.Adding.{added}
 use Rattle.code.proofs.Shares.{in-at}
-use Rattle.code.proofs.Sums.{added-length, added-at}
 use Rattle.code.proofs.Walks.{dropped}
 
 -- of n bytes, each is the sum over the places from k on of what f p has there, by their coefficients

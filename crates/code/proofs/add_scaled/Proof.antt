@@ -1,8 +1,9 @@
--- `code::add_scaled` meets its contract: byte by byte, with what is left still to be added.
+-- `code::add_scaled` meets its contract: a short body product by product, another byte by byte, with what is left still to be added.
 use Prim.Native.Nat.{_-_, _≤_, min}
 use native.Mathlib.Omega.{arith}
 use lib.ListN.{length}
-use Rattle.code.proofs.Sums.{Adding, add-start, add-turn, add-end}
+use Rattle.field.proofs.Added.{Adding, add-start, add-turn, add-end}
+use Rattle.code.proofs.Sums.{row-read}
 use borrow.Author.Needs.{needs}
 use Rattle.code.proofs.add_scaled.Statement.{statement}
 use Rattle.code.proofs.add_scaled.Tie as tie
@@ -12,6 +13,15 @@ Inv-loop sum₀ body by row end k₀ sum k = (k ≤ min (length sum₀) (length 
 
 abbrev μ-loop : tie.MeasureT-loop
 μ-loop sum₀ body by row end k₀ sum k = end - k
+
+add-products-requires : tie.Need-add-products-requires Inv-loop μ-loop
+add-products-requires c κs = search needs
+
+same-length : tie.Need-same-length Inv-loop μ-loop
+same-length c = search needs
+
+returns : tie.Need-returns Inv-loop μ-loop
+returns c = c .before .before .add-products .ensures
 
 row-requires : tie.Need-row-requires Inv-loop μ-loop
 row-requires c κs = search needs
@@ -47,15 +57,15 @@ loop-again : tie.Need-loop-again Inv-loop μ-loop
 loop-again c =
     let b3 = c .before .before .before in (
       omega (arith, b3 .before .shorter .ensures),
-      add-turn _ _ _ _ _ (b3 .before .before .row .result) (omega arith) (omega arith)
-          (c .shared-slice-known2 .given (b3 .loop .k) .fits) (b3 .before .before .row .ensures) (b3 .loop .inv .1),
+      add-turn _ _ _ _ _ (omega arith) (omega arith) _
+          (row-read _ _ _ (c .shared-slice-known2 .given (b3 .loop .k) .fits) (b3 .before .before .row .ensures)) (b3 .loop .inv .1),
     )
 
-same-length : tie.Need-same-length Inv-loop μ-loop
-same-length c = c .before .loop .inv .1 .long
+same-length-2 : tie.Need-same-length-2 Inv-loop μ-loop
+same-length-2 c = c .before .loop .inv .1 .long
 
-returns : tie.Need-returns Inv-loop μ-loop
-returns c = add-end _ _ _ _ _ (omega (arith, c .before .before .shorter .ensures)) (c .before .loop .inv .1)
+returns-2 : tie.Need-returns-2 Inv-loop μ-loop
+returns-2 c = add-end _ _ _ _ _ (omega (arith, c .before .before .shorter .ensures)) (c .before .loop .inv .1)
 
 pub add-scaled-spec : {M : Type 1} → statement M
 add-scaled-spec =
@@ -63,6 +73,9 @@ add-scaled-spec =
     (tie.spec
     Inv-loop
     μ-loop
+    add-products-requires
+    same-length
+    returns
     row-requires
     shorter-requires
     loop-holds
@@ -74,5 +87,5 @@ add-scaled-spec =
     add-k
     loop-less
     loop-again
-    same-length
-    returns)
+    same-length-2
+    returns-2)
