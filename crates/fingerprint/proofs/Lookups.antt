@@ -14,7 +14,7 @@ use Rattle.algebra.proofs.Several.{listed-length, listed-at, listed-same}
 use Rattle.field.specs.Byte as byte
 use Rattle.field.proofs.Byte.{Byte, field}
 use Rattle.field.proofs.Sum.{plus-lt, plus-assoc, plus-swap}
-use Rattle.field.proofs.Product.{times-plus, times-lt}
+use Rattle.field.proofs.Product.{plus-times, times-plus, times-lt}
 use Rattle.field.proofs.Laws.{times-comm}
 use Rattle.field.proofs.Rows.{products-at}
 use Rattle.column.specs.declared.Column.{Column}
@@ -69,23 +69,43 @@ unfolding multiples
 multiples-at u k h =
     ap unpacked (listed-at 256 (λ j. packed (scaled j u)) 0 k h) ∙ unpacked-packed (scaled k u) (scaled-bytes k u h)
 
--- the multiples, read in the rows of the three bytes
-pub rows-multiples : (u : Column) (ra rb rc : List ℕ) → Bytes u
-    → ra ≡ byte.products (u .a) → rb ≡ byte.products (u .b) → rc ≡ byte.products (u .c)
-    → listed 256 (λ k. packed (record { a = getD ra k 0; b = getD rb k 0; c = getD rc k 0 })) ≡ multiples u
-unfolding multiples scaled
-rows-multiples u ra rb rc h ea eb ec =
-    listed-same 256 _ _ (λ k hk. ap packed (column-path _ _ (entry ra (u .a) (h .0) ea k hk) (entry rb (u .b) (h .1) eb k hk) (entry rc (u .c) (h .2) ec k hk)))
-  where
-    entry : (r : List ℕ) (x : ℕ) → x < 256 → r ≡ byte.products x → (k : ℕ) → k < 256 → getD r k 0 ≡ byte.times k x
-    entry r x hx e k hk = ap (λ (l : List ℕ). getD l k 0) e ∙ products-at x k hk ∙ times-comm x k hx hk
+-- r holds the products of the byte x
+abbrev pub Row : List ℕ → ℕ → Type 0
+Row r x = (x < 256) × ((k : ℕ) → k < 256 → getD r k 0 ≡ byte.times x k)
 
--- the three parts of the table
-pub table-put : (y second third : Column) (one two three : List ℕ) → second ≡ shifted y → third ≡ shifted second
-    → one ≡ multiples y → two ≡ multiples second → three ≡ multiples third → one ++ (two ++ three) ≡ table-of y
-unfolding table-of
-table-put y second third one two three es et e₁ e₂ e₃ =
-    (λ i. e₁ i ++ ((e₂ ∙ ap multiples es) i ++ (e₃ ∙ ap multiples (et ∙ ap shifted es)) i))
+pub row-of : (x : ℕ) (r : List ℕ) → x < 256 → r ≡ byte.products x → Row r x
+row-of x r h e = (h, λ k hk. ap (λ (l : List ℕ). getD l k 0) e ∙ products-at x k hk)
+
+-- the row of a sum, from the two rows
+pub row-sum : (x y : ℕ) (rx ry r : List ℕ) → Row rx x → Row ry y → r ≡ listed 256 (λ k. byte.plus (getD rx k 0) (getD ry k 0)) → Row r (byte.plus x y)
+row-sum x y rx ry r hx hy e = (
+  plus-lt x y (hx .0) (hy .0),
+  λ k hk. ap (λ (l : List ℕ). getD l k 0) e ∙ listed-at 256 (λ j. byte.plus (getD rx j 0) (getD ry j 0)) 0 k hk
+      ∙ ap₂ byte.plus (hx .1 k hk) (hy .1 k hk)
+      ∙ sym (plus-times k x y),
+)
+
+-- what three rows hold side by side
+abbrev pub side-by-side : List ℕ → List ℕ → List ℕ → List ℕ
+side-by-side ra rb rc = listed 256 (λ k. packed (record { a = getD ra k 0; b = getD rb k 0; c = getD rc k 0 }))
+
+-- the multiples, read in the rows of the three bytes
+rows-multiples : (u : Column) (ra rb rc : List ℕ) → Row ra (u .a) → Row rb (u .b) → Row rc (u .c) → side-by-side ra rb rc ≡ multiples u
+unfolding multiples scaled
+rows-multiples u ra rb rc ha hb hc =
+    listed-same 256 _ _ (λ k hk. ap packed (column-path _ _ (entry ra (u .a) ha k hk) (entry rb (u .b) hb k hk) (entry rc (u .c) hc k hk)))
+  where
+    entry : (r : List ℕ) (x : ℕ) → Row r x → (k : ℕ) → k < 256 → getD r k 0 ≡ byte.times k x
+    entry r x h k hk = h .1 k hk ∙ times-comm x k (h .0) hk
+
+-- the three parts of the table, from the rows of the seed column and of two sums of its bytes
+pub table-put : (y : Column) (ra rb rc rac rcb one two three : List ℕ) → Row ra (y .a) → Row rb (y .b) → Row rc (y .c)
+    → Row rac (byte.plus (y .a) (y .c)) → Row rcb (byte.plus (y .c) (y .b))
+    → one ≡ side-by-side ra rb rc → two ≡ side-by-side rc rac rb → three ≡ side-by-side rb rcb rac → one ++ (two ++ three) ≡ table-of y
+unfolding table-of shifted
+table-put y ra rb rc rac rcb one two three ha hb hc hac hcb e₁ e₂ e₃ =
+    (λ i. (e₁ ∙ rows-multiples y ra rb rc ha hb hc) i
+    ++ ((e₂ ∙ rows-multiples (shifted y) rc rac rb hc hac hb) i ++ (e₃ ∙ rows-multiples (shifted (shifted y)) rb rcb rac hb hcb hac) i))
 
 -- an entry of the first 256, and of those behind them
 in-first : (u : Column) (rest : List ℕ) (k : ℕ) → k < 256 → unpacked (getD (multiples u ++ rest) k 0) ≡ scaled k u

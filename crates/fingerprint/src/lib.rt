@@ -3,6 +3,8 @@
 ghost use mathlib.Core.Path.{_≡_};
 ghost use Prim.Native.Nat.{_+_, _≤_, _<_};
 ghost use lib.ListN.{length, getD, drop};
+ghost use Rattle.algebra.specs.Several.{listed};
+ghost use Rattle.field.specs.Byte.{plus};
 ghost use Rattle.algebra.specs.Combination.{combined};
 ghost use Rattle.column.specs.Column.{column-space};
 ghost use Rattle.column.specs.Column as column;
@@ -47,27 +49,40 @@ fn refused(number: u8) -> Fingerprinted
     }
 }
 
-// For each byte k the multiples by k of y, of x y and of x^2 y.
+// For each byte k the multiples by k of y, of x y and of x^2 y. The bytes of the two others are sums of y's, and so are their rows.
 pub fn table(y: Column) -> [u32; 768]
     ensures { λ r. ⌜ r ≡ horner.table-of y ⌝ }
 {
+    let a = field::row(y.a);
+    let b = field::row(y.b);
+    let c = field::row(y.c);
+    let ac = sums(&a, &c);
+    let cb = sums(&c, &b);
     let mut out = [0u32; 768];
-    let second = y.shifted();
-    let third = second.shifted();
-    fill(&mut out[0..256], y);
-    fill(&mut out[256..512], second);
-    fill(&mut out[512..768], third);
+    fill(&mut out[0..256], &a, &b, &c);
+    fill(&mut out[256..512], &c, &ac, &b);
+    fill(&mut out[512..768], &b, &cb, &ac);
     out
 }
 
-// Puts the multiples of u by each byte into 256 places.
-fn fill(out: &mut [u32], u: Column)
-    requires { ⌜ length (now out) ≡ 256 ⌝ }
-    ensures { λ r. ⌜ now (out .exit) ≡ horner.multiples u ⌝ }
+// The row of the sum of two bytes, from their rows.
+fn sums(a: &[u8; 256], b: &[u8; 256]) -> [u8; 256]
+    ensures { λ r. ⌜ r ≡ listed 256 (λ k. plus (getD (now (a .entry)) k 0) (getD (now (b .entry)) k 0)) ⌝ }
 {
-    let a = field::row(u.a);
-    let b = field::row(u.b);
-    let c = field::row(u.c);
+    let mut out = [0u8; 256];
+    let mut k = 0;
+    while k < 256 {
+        out[k] = field::plus(a[k], b[k]);
+        k += 1;
+    }
+    out
+}
+
+// Puts the columns that three rows hold side by side into 256 places.
+fn fill(out: &mut [u32], a: &[u8; 256], b: &[u8; 256], c: &[u8; 256])
+    requires { ⌜ length (now out) ≡ 256 ⌝ }
+    ensures { λ r. ⌜ now (out .exit) ≡ listed 256 (λ k. horner.packed (record { a = getD (now (a .entry)) k 0; b = getD (now (b .entry)) k 0; c = getD (now (c .entry)) k 0 })) ⌝ }
+{
     let mut k = 0;
     while k < 256 {
         out[k] = packed(Column {
