@@ -8,7 +8,3 @@ use lib.ListN.{length}
 -- the operation's own refusal, or 4 where the lent buffer has another length than n, or 0
 unfoldable pub numbered : ℕ → ℕ → List ℕ → ℕ
 numbered number n buffer = cond (eqb number 0) (cond (eqb (length buffer) n) 0 4) number
-
--- the buffer at the end: the result with 0, and what it held with any other number
-unfoldable pub held : ℕ → List ℕ → List ℕ → List ℕ
-held number result buffer = cond (eqb number 0) result buffer

@@ -14,7 +14,7 @@ ghost use Rattle.inspect.specs.Check.{checked, opened, opened-place};
 ghost use Rattle.cut.specs.Cut as cutting;
 ghost use Rattle.cut.specs.Standard as standard;
 ghost use Rattle.join.specs.Join as joining;
-ghost use Rattle.abi.specs.Abi.{numbered, held};
+ghost use Rattle.abi.specs.Abi.{numbered};
 
 #[no_mangle]
 pub extern "C" fn rwk_cut(
@@ -115,7 +115,7 @@ pub extern "C" fn rwk_join(
 #[no_mangle]
 pub extern "C" fn rwk_sha256(body: &[u8], digest: &mut [u8]) -> u32
     ensures { λ r. ⌜ r ≡ numbered (answered (now (body .entry)) .number) 32 (now (digest .entry)) ⌝ }
-    ensures { λ r. ⌜ now (digest .exit) ≡ held r (answered (now (body .entry)) .digest) (now (digest .entry)) ⌝ }
+    ensures { λ r. ⌜ now (digest .exit) ≡ cutting.held r (answered (now (body .entry)) .digest) (now (digest .entry)) ⌝ }
 {
     let hashed = sha256::sha256(body);
     let result = hashed.digest;
@@ -125,7 +125,7 @@ pub extern "C" fn rwk_sha256(body: &[u8], digest: &mut [u8]) -> u32
 #[no_mangle]
 pub extern "C" fn rwk_fingerprint(seed: u32, body: &[u8], column: &mut [u8]) -> u32
     ensures { λ r. ⌜ r ≡ numbered (fingerprinted seed (now (body .entry)) .number) 3 (now (column .entry)) ⌝ }
-    ensures { λ r. ⌜ now (column .exit) ≡ held r (column-bytes (fingerprinted seed (now (body .entry)) .column)) (now (column .entry)) ⌝ }
+    ensures { λ r. ⌜ now (column .exit) ≡ cutting.held r (column-bytes (fingerprinted seed (now (body .entry)) .column)) (now (column .entry)) ⌝ }
 {
     let printed = fingerprint::fingerprint(seed, body);
     let result = [printed.column.a, printed.column.b, printed.column.c];
@@ -135,7 +135,7 @@ pub extern "C" fn rwk_fingerprint(seed: u32, body: &[u8], column: &mut [u8]) -> 
 // Puts the result of an operation that gave this number into the buffer, unless one of the two refuses.
 fn give(number: u32, result: &[u8], buffer: &mut [u8]) -> u32
     ensures { λ r. ⌜ r ≡ numbered number (length (now (result .entry))) (now (buffer .entry)) ⌝ }
-    ensures { λ r. ⌜ now (buffer .exit) ≡ held r (now (result .entry)) (now (buffer .entry)) ⌝ }
+    ensures { λ r. ⌜ now (buffer .exit) ≡ cutting.held r (now (result .entry)) (now (buffer .entry)) ⌝ }
 {
     if number != 0 {
         return number;

@@ -101,7 +101,8 @@ pub fn add_scaled(sum: &mut [u8], body: &[u8], by: u8)
     }
 }
 
-fn shorter(a: usize, b: usize) -> usize
+// How far both of two lengths go.
+pub fn shorter(a: usize, b: usize) -> usize
     ensures { λ r. ⌜ r ≡ min a b ⌝ }
 {
     if a < b { a } else { b }

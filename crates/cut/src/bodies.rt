@@ -1,7 +1,7 @@
 // A body of a block, written where it belongs: the block's own bytes, or the sum of its own bodies by their coefficients.
 ghost use mathlib.Core.Path.{_≡_};
 ghost use mathlib.Core.List.{map};
-ghost use Prim.Native.Nat.{_*_, _≤_, min};
+ghost use Prim.Native.Nat.{_*_, _≤_};
 ghost use lib.ListN.{length, take, drop, replicate};
 ghost use Rattle.field.specs.Byte.{bytes};
 ghost use Rattle.code.specs.Cutting as cutting;
@@ -51,13 +51,7 @@ fn add_all(out: &mut [u8], m: u8, size: u32, index: u8, block: &[u8], coefficien
 fn own(size: u32, j: u8, block: &[u8]) -> &[u8]
     ensures { λ r. ⌜ now r ≡ take size (drop (j * size) (now (block .entry))) ⌝ }
 {
-    let start = shorter((j as usize) * (size as usize), block.len());
-    let end = start + shorter(size as usize, block.len() - start);
+    let start = code::shorter((j as usize) * (size as usize), block.len());
+    let end = start + code::shorter(size as usize, block.len() - start);
     &block[start..end]
-}
-
-fn shorter(a: usize, b: usize) -> usize
-    ensures { λ r. ⌜ r ≡ min a b ⌝ }
-{
-    if a < b { a } else { b }
 }

@@ -3,7 +3,7 @@ use crate::regain::regain;
 ghost use mathlib.Core.Path.{_≡_};
 ghost use mathlib.Core.Bool.{cond};
 ghost use mathlib.Core.List.{map};
-ghost use Prim.Native.Nat.{_+_, _-_, _*_, _^_, _<_, _≤_, min};
+ghost use Prim.Native.Nat.{_+_, _-_, _*_, _^_, _<_, _≤_};
 ghost use lib.Dec.{eqb};
 ghost use lib.ListN.{length};
 ghost use Rattle.algebra.specs.Several.{listed, All, Distinct};
@@ -56,7 +56,7 @@ fn write_part(
     while done < out.len() {
         let t = (first + done) / size;
         let p = (first + done) % size;
-        let end = done + shorter(size - p, out.len() - done);
+        let end = done + code::shorter(size - p, out.len() - done);
         write_run(
             &mut out[done..end],
             t as u8,
@@ -114,12 +114,6 @@ fn looked_at(fill: &[u8]) -> u32
         }
     }
     0
-}
-
-fn shorter(a: usize, b: usize) -> usize
-    ensures { λ r. ⌜ r ≡ min a b ⌝ }
-{
-    if a < b { a } else { b }
 }
 
 // The block, for an output as long as it is: 14, with nothing written, where the fill is not zero, and 0.

@@ -1,6 +1,6 @@
 // The two records of document 01, written and read.
 // `CHECK_MARK`, `FRAGMENT_MARK`, `WRITTEN_VERSION`, and by version the places and lengths: `hash_place`, `prints_place`, `check_length`, `body_place`, `record_length`.
-// Reading: `byte_at`, `read_check`, `read_fragment`; what lies past the end reads as zero.
+// Reading: `byte_at`, `block_number_at`, `read_check`, `read_fragment`; what lies past the end reads as zero.
 // The tests that refuse by 1, 5, 6 and 8: `counts_fit`, `check_marked`, `check_shaped`, `fragment_shaped`.
 // Writing: `put`, `write_check_head`, `write_fragment_head`; a buffer that is too short holds what it held.
 // No function asks anything of its caller.
@@ -18,6 +18,7 @@ pub use places::check_length;
 pub use places::hash_place;
 pub use places::prints_place;
 pub use places::record_length;
+pub use read::block_number_at;
 pub use read::byte_at;
 pub use read::read_check;
 pub use read::read_fragment;

@@ -31,6 +31,13 @@ fn wide(x: u8) -> u64
     x as u64
 }
 
+// The block number whose eight bytes stand from `at` on.
+pub fn block_number_at(s: &[u8], at: u8) -> u64
+    ensures { λ r. ⌜ r ≡ layout.number-at 8 at (now (s .entry)) ⌝ }
+{
+    number_at(s, 8, at as usize)
+}
+
 // The number that `count` bytes from `at` on stand for.
 fn number_at(s: &[u8], count: usize, at: usize) -> u64
     requires { ⌜ (count ≤ 8) × (at < 65536) ⌝ }

@@ -9,7 +9,8 @@ ghost use Rattle.record.specs.Layout as layout;
 ghost use Rattle.tell.specs.Parts as parts;
 ghost use Rattle.tell.specs.Told as told;
 
-// With room for every m and n that a byte can name, so that the cut alone refuses them.
+// With room for every m and n that a byte can name, so that the cut alone refuses them: 255 records of 18 + 513 bytes, and a check
+// record of 22 + 32 x 255 + 3 x 255.
 pub(crate) fn cut_and_tell(
     text: &mut [u8],
     m: u8,

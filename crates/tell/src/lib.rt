@@ -10,12 +10,14 @@ ghost use mathlib.Core.Path.{_≡_};
 ghost use mathlib.Core.List.{_++_};
 ghost use Prim.Native.Nat.{_+_, _*_, _≤_};
 ghost use lib.ListN.{length, drop};
-ghost use Rattle.record.specs.Layout as layout;
 ghost use Rattle.tell.specs.Parts as parts;
 ghost use Rattle.tell.specs.Told as told;
 
 // What stands before the block: m, n, the seed column, the block number.
 const HEAD: usize = 13;
+
+// The block number, behind m, n and the seed column.
+const NUMBER_AT: u8 = 5;
 
 const LONGEST: usize = 512;
 
@@ -43,7 +45,7 @@ fn tell_within(input: &[u8], text: &mut [u8]) -> usize
         input[0],
         input[1],
         seed_of(input[2], input[3], input[4]),
-        number_of(input),
+        record::block_number_at(input, NUMBER_AT),
         &input[HEAD..],
     )
 }
@@ -53,23 +55,4 @@ fn seed_of(a: u8, b: u8, c: u8) -> u32
     ensures { λ r. ⌜ r ≡ a + 256 * b + 65536 * c ⌝ }
 {
     (a as u32) + 256 * (b as u32) + 65536 * (c as u32)
-}
-
-// The block number, behind m, n and the seed column.
-fn number_of(input: &[u8]) -> u64
-    ensures { λ r. ⌜ r ≡ layout.number-at 8 5 (now (input .entry)) ⌝ }
-{
-    let mut n: u64 = 0;
-    let mut k = 0;
-    while k < 8 {
-        n = n * 256 + wide(record::byte_at(input, 5 + k));
-        k += 1;
-    }
-    n
-}
-
-fn wide(x: u8) -> u64
-    ensures { λ r. ⌜ r ≡ x ⌝ }
-{
-    x as u64
 }

@@ -3,7 +3,8 @@ use borrow.Author.Needs.{needs}
 use mathlib.Core.Path.{ap, _∙_}
 use Prim.Native.Nat.{ℕ}
 use mathlib.Core.List.{List}
-use Rattle.abi.specs.Abi.{numbered, held}
+use Rattle.cut.specs.Cut.{held}
+use Rattle.abi.specs.Abi.{numbered}
 use Rattle.record.specs.Layout.{column-bytes}
 use Rattle.fingerprint.specs.declared.Fingerprinted.{Fingerprinted}
 use Rattle.abi.proofs.rwk_fingerprint.Statement.{statement}

@@ -4,7 +4,8 @@ use mathlib.Core.Path.{ap, ap₂, _∙_}
 use Prim.Native.Nat.{ℕ}
 use mathlib.Core.List.{List}
 use lib.ListN.{length}
-use Rattle.abi.specs.Abi.{numbered, held}
+use Rattle.cut.specs.Cut.{held}
+use Rattle.abi.specs.Abi.{numbered}
 use Rattle.sha256.specs.declared.Hashed.{Hashed}
 use Rattle.sha256.proofs.Lengths.{length-answered}
 use Rattle.abi.proofs.rwk_sha256.Statement.{statement}

@@ -54,8 +54,8 @@ shared-slice-read-seed-of-3 c = search needs
 seed-of-requires : tie.Need-seed-of-requires
 seed-of-requires c κs = search needs
 
-number-of-requires : tie.Need-number-of-requires
-number-of-requires c κs = search needs
+block-number-at-requires : tie.Need-block-number-at-requires
+block-number-at-requires c κs = search needs
 
 sub-cut-and-tell : tie.Need-sub-cut-and-tell
 sub-cut-and-tell c = search needs
@@ -75,7 +75,7 @@ same-length-3 c = search needs
 returns-3 : tie.Need-returns-3
 returns-3 c = let a = c .before .before .before .before .before .before .before .before .before .before .before .before .before .before .before .before .args in
     let told = c .before .before .cut-and-tell in
-    let text = printed-told (a .input .now) (c .before .before .before .before .before .seed-of .result) (c .before .before .before .before .number-of .result) (omega arith) (omega arith) (c .before .before .before .before .before .seed-of .ensures) (c .before .before .before .before .number-of .ensures) in
+    let text = printed-told (a .input .now) (c .before .before .before .before .before .seed-of .result) (c .before .before .before .before .block-number-at .result) (omega arith) (omega arith) (c .before .before .before .before .before .seed-of .ensures) (c .before .before .before .before .block-number-at .ensures) in
     (told .ensures .0 ∙ ap length text, told .ensures .1 ∙ ap (placed (a .text .now) 0) text)
 
 pub tell-within-spec : {M : Type 1} → statement M
@@ -95,7 +95,7 @@ tell-within-spec =
     shared-slice-read-seed-of-2
     shared-slice-read-seed-of-3
     seed-of-requires
-    number-of-requires
+    block-number-at-requires
     sub-cut-and-tell
     part-cut-and-tell-start
     part-cut-and-tell-end
