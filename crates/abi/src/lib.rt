@@ -2,6 +2,8 @@
 // its caller. A `&[u8]` is a pointer and a length; further values go through pointers that are always written, 0 where the
 // document gives none. On a refusal each lent buffer holds what it held. The header's `record` is `fragment` here, since contracts
 // have another use for that word.
+#![tactic(auto)]
+
 mod verdicts;
 
 ghost use Rattle.std.specs.Prelude.{◌≡◌};

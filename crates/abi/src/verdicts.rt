@@ -5,7 +5,7 @@ ghost use Rattle.inspect.specs.Answer.{answer, reason_answer};
 use inspect::{Reason, Verdict};
 
 // The number of the table of what comes back, and the value beside it, 0 where there is none.
-#[derive(Drop)]
+#[derive(Clone, Copy)]
 pub(crate) struct Answer {
     pub(crate) number: u32,
     pub(crate) value: u64,

@@ -1,4 +1,6 @@
 // The program: reads m, n, a seed column, a block number and a block, and prints what `tell` makes of them.
+#![tactic(auto)]
+
 use libc::{STDIN_FILENO, STDOUT_FILENO};
 
 // One byte more than an input may have shows that there are too many.

@@ -1,5 +1,5 @@
 // What a join is handed: the records of a cut, whole or in part, with other bytes or another length in some places.
-#[derive(Drop)]
+#[derive(Clone, Copy)]
 pub(crate) struct Setting {
     pub(crate) wanted: u64,
     pub(crate) check: [u8; 162],

@@ -1,5 +1,7 @@
 // The m-of-n code: how long a body is, how much each of the first m bodies counts in a body, how much each of any bodies counts in
 // another, and the sum of bodies, to which a multiple of one is added at a time. No function asks anything of its caller.
+#![tactic(auto)]
+
 mod weights;
 
 ghost use Rattle.std.specs.Prelude.{◌≡◌, min, length, replicate};

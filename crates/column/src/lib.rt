@@ -1,9 +1,11 @@
 // Three bytes as a column, a value: `ZERO`, `ONE`, the column of a seed number; sums, multiples by a byte and products.
 // Column (a, b, c) is a + b x + c x^2 modulo x^3 + x + 1. No function asks anything of its caller.
+#![tactic(auto)]
+
 ghost use Rattle.std.specs.Prelude.{◌≡◌};
 ghost use Rattle.column.specs.Column as column;
 
-#[derive(Drop)]
+#[derive(Clone, Copy)]
 pub struct Column {
     pub a: u8,
     pub b: u8,

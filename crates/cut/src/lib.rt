@@ -1,6 +1,8 @@
 // Cutting a block into n fragment records and a check record.
 // `cut` with the counts that the caller names, `cut_standard` with the standard ones; `card_size` plans for the standard ones.
 // No public function asks anything of its caller; on a refusal both buffers hold what they held.
+#![tactic(auto)]
+
 mod bodies;
 mod fragments;
 mod refusal;
@@ -13,7 +15,7 @@ ghost use Rattle.cut.specs.Cut as cut;
 pub use standard::{card_size, cut_standard};
 
 // A number of the table of what comes back, and how many bytes a card has to hold; beside a refusal 0.
-#[derive(Drop)]
+#[derive(Clone, Copy)]
 pub struct CardSize {
     pub number: u32,
     pub size: u64,

@@ -1,6 +1,8 @@
 // The bytes as the field of FIPS 197: sum, product, inverse and quotient of two bytes, the row of all products by one byte, and a
 // multiple of some bytes added to others. Products stand on one table of the powers of 03; a function of many products reads each
 // table once. No public function asks anything of its caller.
+#![tactic(auto)]
+
 mod adding;
 mod many;
 mod tables;

@@ -1,5 +1,7 @@
 // Fingerprints: of a body at a seed, by Horner's rule with a table for each seed, and the one that a list of fingerprints calls
 // for of a body. No public function asks anything of its caller.
+#![tactic(auto)]
+
 ghost use Rattle.std.specs.Prelude.{◌≡◌, ◌+◌, ◌≤◌, ◌<◌, length, get_or, drop};
 ghost use Rattle.algebra.specs.Several.{listed};
 ghost use Rattle.field.specs.Byte.{plus};
@@ -13,7 +15,7 @@ ghost use Rattle.fingerprint.specs.Answer as answer;
 use column::Column;
 
 // A number of the table of what comes back, and the fingerprint; beside a refusal the zero column.
-#[derive(Drop)]
+#[derive(Clone, Copy)]
 pub struct Fingerprinted {
     pub number: u8,
     pub column: Column,

@@ -1,5 +1,7 @@
 // Gathering: `gather` reads records end to end, in order, and finds the first m that a join can use: accepted, with different indexes.
 // `stride` is how long each of the records is. No public function asks anything of its caller.
+#![tactic(auto)]
+
 ghost use Rattle.std.specs.Prelude.{◌≡◌, List, map, ◌+◌, ◌<◌, ◌^◌, set};
 ghost use Rattle.record.specs.Heads.{check_head_of};
 ghost use Rattle.gather.specs.Gather as gathering;
@@ -7,7 +9,7 @@ ghost use Rattle.gather.specs.Gather as gathering;
 use inspect::Verdict;
 
 // The used records, in the order in which they were read: their indexes, and their places among the records, from 0, with zeros behind.
-#[derive(Drop)]
+#[derive(Clone, Copy)]
 pub struct Gathered {
     pub count: usize,
     pub read: usize,

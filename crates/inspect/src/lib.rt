@@ -1,5 +1,7 @@
 // The check of one fragment against its check record, `check`, and the body of an accepted one, `open`.
 // Any bytes at all give a verdict: no public function asks anything of its caller.
+#![tactic(auto)]
+
 mod agree;
 
 ghost use Rattle.std.specs.Prelude.{◌≡◌, ◌+◌};
@@ -9,7 +11,7 @@ ghost use Rattle.inspect.specs.Check.{checked, opened, opened_place};
 use agree::{hash_agrees, print_agrees};
 
 // Why a fragment is refused, in document 01's order.
-#[derive(Drop)]
+#[derive(Clone, Copy)]
 pub enum Reason {
     CheckMark,
     CheckShape,
@@ -22,7 +24,7 @@ pub enum Reason {
 }
 
 // What a check answers: the index of an accepted fragment, or why it is refused.
-#[derive(Drop)]
+#[derive(Clone, Copy)]
 pub enum Verdict {
     Accepted(u8),
     Refused(Reason),

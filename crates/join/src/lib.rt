@@ -1,5 +1,7 @@
 // Joining a block: `join` gives it back from any m of its fragment records, whatever lies between them.
 // No public function asks anything of its caller; on a refusal the output holds what it held.
+#![tactic(auto)]
+
 mod block;
 mod refusal;
 mod regain;
@@ -8,7 +10,7 @@ ghost use Rattle.std.specs.Prelude.{◌≡◌};
 ghost use Rattle.join.specs.Join as joining;
 
 // What a join answers: the number, how many records were read, and how many different indexes were accepted.
-#[derive(Drop)]
+#[derive(Clone, Copy)]
 pub struct Joined {
     pub number: u32,
     pub read: u64,

@@ -1,4 +1,6 @@
 // The bounds of document 01, each once: constants only. `specs/Limits` has the same numbers for contracts.
+#![tactic(auto)]
+
 pub const MOST_FRAGMENTS: u32 = 64;
 
 pub const LONGEST_BLOCK: usize = 65536;

@@ -4,6 +4,8 @@
 // The tests that refuse by 1, 5, 6 and 8: `counts_fit`, `check_marked`, `check_shaped`, `fragment_shaped`.
 // Writing: `put`, `write_check_head`, `write_fragment_head`; a buffer that is too short holds what it held.
 // No function asks anything of its caller.
+#![tactic(auto)]
+
 mod places;
 mod read;
 mod shape;
@@ -19,7 +21,7 @@ pub use shape::{check_marked, check_shaped, counts_fit, fragment_shaped};
 pub use write::{put, write_check_head, write_fragment_head};
 
 // What stands before the hashes of a check record.
-#[derive(Drop)]
+#[derive(Clone, Copy)]
 pub struct CheckHead {
     pub version: u16,
     pub number: u64,
@@ -30,7 +32,7 @@ pub struct CheckHead {
 }
 
 // What stands before the body of a fragment record.
-#[derive(Drop)]
+#[derive(Clone, Copy)]
 pub struct FragmentHead {
     pub version: u16,
     pub number: u64,

@@ -1,5 +1,7 @@
 // SHA-256 (FIPS 180-4). `sha256` hashes a body; `start`, `step` and `finish` hash bytes that come in pieces: any number
 // of blocks of 64 bytes, and then the rest. The definitions stand in specs/, in the standard's order and by its names.
+#![tactic(auto)]
+
 mod block;
 mod tail;
 mod word;
@@ -12,7 +14,7 @@ pub use block::step;
 pub use tail::finish;
 
 // A hash value: eight words, H0 to H7 of the standard, and its working variables in the turns of a block.
-#[derive(Drop)]
+#[derive(Clone, Copy)]
 pub struct State {
     pub a: u32,
     pub b: u32,
@@ -25,7 +27,7 @@ pub struct State {
 }
 
 // 0 with the digest of a body, or the number of a refusal with zero bytes.
-#[derive(Drop)]
+#[derive(Clone, Copy)]
 pub struct Hashed {
     pub number: u32,
     pub digest: [u8; 32],

@@ -1,5 +1,7 @@
 // Runs SHA-256 on the cases of three files and prints, for each, how many of its cases agree: NIST's short and long
 // messages as they are published, and the lengths around the padding's edges. Nothing here is trusted by a proof.
+#![tactic(auto)]
+
 mod text;
 
 ghost use Rattle.std.specs.Prelude.{◌≡◌, length};
@@ -9,7 +11,7 @@ use std::num::wrapping_add_u64;
 use text::{line_end, number, starts, unhex};
 
 // The case that is being read, and how many were read and agreed.
-#[derive(Drop)]
+#[derive(Clone, Copy)]
 struct Tally {
     length: usize,
     agreed: u64,
