@@ -129,6 +129,7 @@ module _ {A : Type 0} (K : Carrier A) (L : Laws K) where
     -- the weight of one of the points has as many coefficients as there are points
     pub given_weight : (ps : List A) (p : A) → In p ps → Given K (length ps) (λ t. weight K inverse ps p t)
     unfolding weight
+    given_weight [] p x' = elim x' [ ]
     given_weight (q ∷ ps) p (inl e) =
         given_same
         (λ t. sym (ap (λ (y : A). y ⊗ weight K inverse ps p t) (factor_same K inverse p t q (ap (same p) (sym e) ∙ L.same_self p)) ∙ unit_product K L _))
@@ -151,6 +152,7 @@ module _ {A : Type 0} (K : Carrier A) (L : Laws K) where
     -- and 0 at every other
     pub weight_other : (ps : List A) (p q : A) → In q ps → p ≢ q → weight K inverse ps p q ≡ none
     unfolding weight
+    weight_other [] p q x'' ne = elim x'' [ ]
     weight_other (r ∷ ps) p q (inl e) ne =
         ap (λ (y : A). y ⊗ weight K inverse ps p q)
         (factor_other K inverse p q r (same_not K L p r (λ h. ne (h ∙ sym e))) ∙ ap (λ (y : A). (q ⊕ y) ⊗ inverse (p ⊕ r)) (sym e)
@@ -190,6 +192,7 @@ module _ {A : Type 0} (K : Carrier A) (L : Laws K) where
       mixed_at : (W : A → A → A) (t : A) (ps : List A) → W t t ≡ unit → ((p : A) → p ≢ t → W p t ≡ none)
           → Distinct ps → In t ps → mixed W t ps ≡ f t
       unfolding combined
+      mixed_at W t [] own other d x4 = elim x4 [ ]
       mixed_at W t (p ∷ ps) own other d (inl e) =
           ap₂ (λ (x y : A). x ⊗ f p ⊕ y) (ap (λ (x : A). W x t) (sym e) ∙ own)
           (mixed_none W t ps (all_both (λ q ne z. other q (λ h. ne (sym (h ∙ e)))) ps d.0 d.0))

@@ -11,6 +11,7 @@ use Rattle.algebra.specs.Several.{listed, end_to_end, All, In, Distinct}
 
 -- what all entries have, each has
 pub all_at : {A : Type 0} (P : A → Type 0) (l : List A) → All P l → (a : A) → In a l → P a
+all_at {A = A} P [] h a x'' = elim x'' [ ]
 all_at P (b ∷ l) (h) a (inl e) = subst P (sym e) h.0
 all_at P (b ∷ l) (h) a (inr i) = all_at P l h.1 a i
 
@@ -126,6 +127,7 @@ all_more P [] a h p = (p, tt)
 all_more P (b ∷ l) a h p = (h.0, all_more P l a h.1 p)
 
 pub in_more : {A : Type 0} (l : List A) (a b : A) → In b l → In b (l ++ (a ∷ []))
+in_more {A = A} [] a b x' = elim x' [ ]
 in_more (c ∷ l) a b (inl e) = inl e
 in_more (c ∷ l) a b (inr i) = inr (in_more l a b i)
 
@@ -139,16 +141,19 @@ distinct_more (b ∷ l) a d h = (all_more _ l a d.0 (λ e. h.0 (sym e)), distinc
 
 -- a list without one of its entries
 without : {A : Type 0} (a : A) (l : List A) → In a l → List A
+without {A = A} a [] x' = elim x' [ ]
 without a (b ∷ l) (inl e) = l
 without a (b ∷ l) (inr i) = b ∷ without a l i
 
 without_length : {A : Type 0} (a : A) (l : List A) (i : In a l) → suc (length (without a l i)) ≡ length l
 unfolding without
+without_length {A = A} a [] i = elim i [ ]
 without_length a (b ∷ l) (inl e) = refl
 without_length a (b ∷ l) (inr i) = ap suc (without_length a l i)
 
 still : {A : Type 0} (a : A) (l : List A) (i : In a l) (b : A) → In b l → a ≢ b → In b (without a l i)
 unfolding without
+still {A = A} a [] i b _ ne = elim i [ ]
 still a (c ∷ l) (inl e) b (inl q) ne = absurd (ne (e ∙ sym q))
 still a (c ∷ l) (inl e) b (inr j) ne = j
 still a (c ∷ l) (inr i) b (inl q) ne = inl q

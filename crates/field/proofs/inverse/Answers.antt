@@ -1,0 +1,14 @@
+use Rattle.std.proofs.Common.{arith}
+use mathlib.Core.Path.{sym, ap, ◌∙◌}
+use Rattle.field.specs.Byte.{inverse}
+use Rattle.field.proofs.Inverses.{inverse_none}
+use Rattle.field.proofs.Lookups.{look_inverse}
+use borrow.Author.Rules.{rules}
+use Rattle.field.proofs.inverse.Goals as goal
+
+pub returns-then-a-eq0 : goal.returns-then-a-eq0
+returns-then-a-eq0 c = sym (ap inverse c.if-a-eq0.true ∙ inverse_none)
+
+pub returns : goal.returns
+returns c =
+    look_inverse _ c.powers-table.ensures _ _ c.place.ensures.0 (c.place.ensures.1 c.if-a-eq0.false)

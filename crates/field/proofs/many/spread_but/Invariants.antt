@@ -1,0 +1,16 @@
+use mathlib.Core.Path.{◌≡◌, ◌∙◌}
+use Prim.Native.Nat.{◌≤◌}
+use native.Mathlib.Omega.{arith}
+use lib.ListN.{length, drop}
+use Rattle.algebra.specs.Polynomial.{spread_but}
+use Rattle.field.specs.Byte.{at_place, bytes}
+use Rattle.field.proofs.Growth.{none_spread, multiplied, passed_over, all_spread}
+use borrow.Author.Rules.{rules}
+use Rattle.field.proofs.many.spread_but.Given as goal
+
+abbrev pub invariant-loop-k : goal.invariant-loop-k
+invariant-loop-k l = (l.k ≤ length l.points) × (l.product ≤ 255) × (at_place l.product ≡ spread_but bytes (drop l.k l.points) l.p l.t)
+
+-- proposed from the loop's first test
+abbrev pub decreases-loop-k : goal.decreases-loop-k
+decreases-loop-k l = l.k

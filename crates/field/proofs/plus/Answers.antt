@@ -1,0 +1,8 @@
+use Rattle.std.proofs.Common.{arith}
+use mathlib.Core.Path.{refl}
+use Rattle.field.specs.Byte.{plus}
+use Rattle.field.proofs.plus.Goals as goal
+
+pub returns : goal.returns
+unfolding plus
+returns c = refl

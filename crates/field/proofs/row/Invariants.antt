@@ -1,0 +1,13 @@
+use Prim.Native.Nat.{◌≤◌, ◌-◌}
+use native.Mathlib.Omega.{arith}
+use Rattle.field.proofs.Lookups.{look_lt}
+use Rattle.field.proofs.Rows.{Filled, start, fill_read, filled, row_none}
+use borrow.Author.Rules.{rules}
+use Rattle.field.proofs.row.Given as goal
+
+abbrev pub invariant-loop-k : goal.invariant-loop-k
+invariant-loop-k l = (l.k ≤ 255) × Filled l.by l.k l.out
+
+-- proposed from the loop's first test
+abbrev pub decreases-loop-k : goal.decreases-loop-k
+decreases-loop-k l = 255 - l.k

@@ -1,0 +1,8 @@
+use Rattle.std.proofs.Common.{arith}
+use Rattle.field.proofs.Places.{place_read}
+use borrow.Author.Rules.{rules}
+use Rattle.field.proofs.tables.place.Goals as goal
+
+pub returns : goal.returns
+returns c =
+    place_read c.args.places.now c.requires _ _ _ (search rules) c.wide.ensures c.wide-2.ensures

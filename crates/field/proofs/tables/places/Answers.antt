@@ -1,0 +1,8 @@
+use Rattle.std.proofs.Common.{arith}
+use Rattle.field.specs.Byte.{plus, xtime, product, times}
+use Rattle.field.proofs.Places.{powers, table, seek, seeks, places, places_rule}
+use Rattle.field.proofs.tables.places.Goals as goal
+
+pub returns : goal.returns
+unfolding places plus powers product seek seeks table times xtime
+returns c = places_rule

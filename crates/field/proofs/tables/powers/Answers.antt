@@ -1,0 +1,9 @@
+use Rattle.std.proofs.Common.{arith}
+use Rattle.field.specs.Byte.{plus, xtime, product, times}
+use Rattle.field.proofs.Power.{follows, tested}
+use Rattle.field.proofs.Test.{both}
+use Rattle.field.proofs.tables.powers.Goals as goal
+
+pub returns : goal.returns
+unfolding both follows plus product times xtime
+returns c = tested _ tt
