@@ -1,0 +1,9 @@
+use Rattle.std.proofs.Common.{arith}
+use Rattle.column.specs.Column.{scaled}
+use Rattle.column.proofs.Seed.{column_path}
+use borrow.Author.Rules.{rules}
+use Rattle.column.proofs.Column.scaled.Goals as goal
+
+pub returns : goal.returns
+unfolding scaled
+returns c = column_path _ _ c.times.ensures c.times-2.ensures c.times-3.ensures

@@ -1,0 +1,10 @@
+use Rattle.std.proofs.Common.{arith}
+use mathlib.Core.Path.{refl}
+use Rattle.column.specs.Column.{shifted}
+use Rattle.column.proofs.Seed.{column_path}
+use borrow.Author.Rules.{rules}
+use Rattle.column.proofs.Column.shifted.Goals as goal
+
+pub returns : goal.returns
+unfolding shifted
+returns c = column_path _ _ refl c.plus.ensures refl
