@@ -39,6 +39,7 @@ different [] h d = tt
 different (n ∷ l) h d = (other_bytes n h.0 l h.1 d.0, different l h.1 d.1)
 
 pub in_map : {A B : Type 0} (f : A → B) (l : List A) (a : A) → In a l → In (f a) (map f l)
+in_map {A = A} {B = B} f [] a x' = elim x' [ ]
 in_map f (b ∷ l) a (inl e) = inl (ap f e)
 in_map f (b ∷ l) a (inr i) = inr (in_map f l a i)
 

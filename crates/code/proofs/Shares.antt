@@ -79,6 +79,7 @@ module _ {A : Type 0} (K : Carrier A) (L : Laws K) where
   -- and where it is one, its factor is
   nodal_but : (ps : List A) (p t : A) → Distinct ps → In p ps → nodal K ps t ≡ (t ⊕ p) ⊗ spread_but K ps p t
   unfolding nodal
+  nodal_but [] p t d x'' = elim x'' [ ]
   nodal_but (q ∷ ps) p t d (inl e) =
       ap₂ (λ (x y : A). (t ⊕ x) ⊗ y) (sym e) (nodal_all ps p t (all_of _ ps (λ r i z. all_at _ ps d.0 r i (sym e ∙ z))))
       ∙ ap (λ (x : A). (t ⊕ p) ⊗ x) (sym (but_same K q ps p t (ap (same p) (sym e) ∙ L.same_self p)))

@@ -1,0 +1,14 @@
+use Prim.Native.Nat.{◌-◌, ◌≤◌, min}
+use native.Mathlib.Omega.{arith}
+use lib.ListN.{length}
+use Rattle.field.proofs.Added.{Adding, add_start, add_turn, add_end}
+use Rattle.code.proofs.Sums.{row_read}
+use borrow.Author.Rules.{rules}
+use Rattle.code.proofs.add_scaled.Given as goal
+
+abbrev pub invariant-loop-k : goal.invariant-loop-k
+invariant-loop-k l = (l.k ≤ min (length l.initial.sum) (length l.body)) × Adding l.by l.initial.sum l.body l.k l.sum
+
+-- proposed from the loop's first test
+abbrev pub decreases-loop-k : goal.decreases-loop-k
+decreases-loop-k l = l.end - l.k

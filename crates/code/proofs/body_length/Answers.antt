@@ -1,0 +1,10 @@
+use native.Mathlib.Omega.{arith}
+use Rattle.code.proofs.Lengths.{no_bodies, some_bodies, length_fits}
+use borrow.Author.Rules.{rules}
+use Rattle.code.proofs.body_length.Goals as goal
+
+pub returns-then-m-eq0 : goal.returns-then-m-eq0
+returns-then-m-eq0 c = no_bodies _ _ c.if-m-eq0.true
+
+pub returns : goal.returns
+returns c = some_bodies _ _ _ c.wide-stripe.ensures

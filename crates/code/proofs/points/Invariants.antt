@@ -1,0 +1,14 @@
+use mathlib.Core.Path.{refl}
+use Prim.Native.Nat.{◌-◌, ◌≤◌}
+use native.Mathlib.Omega.{arith}
+use Rattle.code.specs.Cutting.{points}
+use Rattle.code.proofs.Walks.{Listed, listed_none, listed_put, listed_all}
+use borrow.Author.Rules.{rules}
+use Rattle.code.proofs.points.Given as goal
+
+abbrev pub invariant-loop-point : goal.invariant-loop-point
+invariant-loop-point l = (l.point ≤ 255) × Listed (λ j. j) 255 l.point l.out
+
+-- proposed from the loop's first test
+abbrev pub decreases-loop-point : goal.decreases-loop-point
+decreases-loop-point l = 255 - l.point

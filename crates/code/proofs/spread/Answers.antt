@@ -1,0 +1,8 @@
+use Rattle.std.proofs.Common.{arith}
+use Rattle.code.specs.Weights.{spread}
+use borrow.Author.Rules.{rules}
+use Rattle.code.proofs.spread.Goals as goal
+
+pub returns : goal.returns
+unfolding spread
+returns c = c.spread_but.ensures

@@ -1,0 +1,23 @@
+use Prim.Native.Nat.{◌-◌, ◌≤◌}
+use native.Mathlib.Omega.{arith}
+use Rattle.code.specs.Shares.{shares}
+use Rattle.code.proofs.Shares.{shares_length, shares_at}
+use Rattle.code.proofs.Overlays.{Overlaying, none_over, one_over, all_over}
+use borrow.Author.Rules.{rules}
+use Rattle.code.proofs.weights.each_share.Goals as goal
+
+pub loop-k-preserved : goal.loop-k-preserved
+loop-k-preserved c =
+    let many = shares_length c.args.points.now c.args.spreads.now c.args.t in
+    let h = c.shorter-end.ensures in
+    let g = c.shorter.ensures in (
+      omega arith,
+      one_over (shares c.args.points.now c.args.spreads.now c.args.t) _ _ _ _ (omega (arith, many, h, g)) (omega (arith, h, g))
+          (shares_at c.args.points.now c.args.spreads.now c.args.t _ _ _ (omega (arith, h, g)) c.nodal-whole.ensures c.share.ensures) c.loop-k.invariant.1,
+    )
+
+pub returns : goal.returns
+returns c =
+    all_over (shares c.args.points.now c.args.spreads.now c.args.t) _ _ _
+    (omega (arith, c.shorter-end.ensures, c.shorter.ensures, shares_length c.args.points.now c.args.spreads.now c.args.t))
+    c.loop-k.invariant.1
