@@ -1,0 +1,24 @@
+use mathlib.Core.Path.{◌∙◌}
+use native.Mathlib.Omega.{arith}
+use Rattle.code.proofs.Walks.{all_small}
+use Rattle.fingerprint.proofs.Exits.{too_long, no_seed, no_columns, done}
+use borrow.Author.Rules.{rules}
+use Rattle.fingerprint.proofs.fingerprint.Goals as goal
+
+pub returns-then-body-gt-LONGEST_BODY : goal.returns-then-body-gt-LONGEST_BODY
+returns-then-body-gt-LONGEST_BODY c =
+    c.refused.ensures ∙ too_long c.args.seed c.args.body.now c.if-body-gt-LONGEST_BODY.true
+
+pub returns-then-seed-gt-LARGEST_SEED : goal.returns-then-seed-gt-LARGEST_SEED
+returns-then-seed-gt-LARGEST_SEED c =
+    c.refused-then-seed-gt-LARGEST_SEED.ensures ∙ no_seed c.args.seed c.args.body.now c.if-body-gt-LONGEST_BODY.false c.if-seed-gt-LARGEST_SEED.true
+
+pub returns-then-body-ne0 : goal.returns-then-body-ne0
+returns-then-body-ne0 c =
+    c.refused-then-body-ne0.ensures ∙ no_columns c.args.seed c.args.body.now c.if-body-gt-LONGEST_BODY.false c.if-seed-gt-LARGEST_SEED.false c.if-body-ne0.true
+
+pub returns : goal.returns
+returns c =
+    done c.args.seed c.args.body.now c.if-body-gt-LONGEST_BODY.false c.if-seed-gt-LARGEST_SEED.false _ _ c.table-entries.result _ (omega (arith, c.from_seed-y.type_inv))
+    (all_small c.args.body.now (λ k. (c.type_inv.body k).fits)) c.if-body-ne0.false
+    c.from_seed-y.ensures c.times.ensures c.table-entries.ensures c.evaluated.ensures

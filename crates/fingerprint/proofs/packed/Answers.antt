@@ -1,0 +1,9 @@
+use Rattle.std.proofs.Common.{arith}
+use mathlib.Core.Path.{refl}
+use Rattle.fingerprint.specs.Horner.{packed}
+use borrow.Author.Rules.{rules}
+use Rattle.fingerprint.proofs.packed.Goals as goal
+
+pub returns : goal.returns
+unfolding packed
+returns c = refl

@@ -1,0 +1,15 @@
+use mathlib.Core.Path.{sym, ◌∙◌}
+use native.Mathlib.Omega.{arith}
+use Rattle.column.proofs.Seed.{column_path}
+use Rattle.fingerprint.proofs.Called.{print_some, print_none}
+use borrow.Author.Rules.{rules}
+use Rattle.fingerprint.proofs.print_at.Goals as goal
+
+pub returns-then-at-prints : goal.returns-then-at-prints
+returns-then-at-prints c =
+    let e = c.column_at.ensures in
+    column_path _ _ e.0 e.1 e.2 ∙ sym (print_some c.args.prints.now c.args.j c.if-at-prints.true)
+
+pub returns : goal.returns
+returns c =
+    sym (print_none c.args.prints.now c.args.j (omega arith))

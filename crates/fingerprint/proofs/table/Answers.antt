@@ -1,0 +1,30 @@
+use mathlib.Core.Path.{refl, ap, ◌∙◌}
+use native.Mathlib.Omega.{arith}
+use lib.ListN.{length}
+use Rattle.algebra.proofs.Several.{listed_length}
+use Rattle.fingerprint.proofs.Lookups.{row_of, row_sum, table_put}
+use Rattle.fingerprint.proofs.Parts.{room_two, room_three, three_put}
+use borrow.Author.Rules.{rules}
+use Rattle.fingerprint.proofs.table.Goals as goal
+
+pub slice_bounds-out-end-3 : goal.slice_bounds-out-end-3
+slice_bounds-out-end-3 c =
+    room_three c.fill.new.out c.fill-2.new.out _ (ap length c.fill.ensures ∙ listed_length 256 _)
+    (ap length c.fill-2.ensures ∙ listed_length 256 _) refl
+
+pub returns : goal.returns
+returns c =
+    let y = c.args.y in
+    let ra = c.row-a.result in
+    let rb = c.row-b.result in
+    let rc = c.row-c.result in
+    let rac = c.sums-ac.result in
+    let rcb = c.sums-cb.result in
+    let a = row_of y.a ra (omega (arith, c.well_formed)) c.row-a.ensures in
+    let b = row_of y.b rb (omega (arith, c.well_formed)) c.row-b.ensures in
+    let d = row_of y.c rc (omega (arith, c.well_formed)) c.row-c.ensures in
+    three_put c.fill.new.out c.fill-2.new.out _ (ap length c.fill.ensures ∙ listed_length 256 _)
+    (ap length c.fill-2.ensures ∙ listed_length 256 _) refl c.fill-3.new.out
+    ∙ table_put y ra rb rc rac rcb c.fill.new.out c.fill-2.new.out c.fill-3.new.out a b d
+    (row_sum y.a y.c ra rc rac a d c.sums-ac.ensures) (row_sum y.c y.b rc rb rcb d b c.sums-cb.ensures)
+    c.fill.ensures c.fill-2.ensures c.fill-3.ensures
