@@ -1,5 +1,4 @@
-use Rattle.std.proofs.Common.{arith}
-use Rattle.std.proofs.Common.{ℕ, List, ap, ◌∙◌, rules, le-ltb, lt-ltb}
+use Rattle.std.proofs.Common.{ℕ, List, ap, ◌∙◌, le-ltb, lt-ltb}
 use Rattle.sha256.proofs.Pieces.{whole}
 use Rattle.sha256.specs.Hash.{finished, answered}
 use Rattle.sha256.specs.declared.Hashed.{Hashed}

@@ -1,4 +1,3 @@
-use Rattle.std.proofs.Common.{arith}
 use Rattle.std.proofs.Common.{rules}
 use Rattle.sha256.specs.Fips180.{H⁰}
 use Rattle.sha256.proofs.start.Goals as goal

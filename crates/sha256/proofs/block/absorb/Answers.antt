@@ -1,5 +1,5 @@
-use Rattle.std.proofs.Common.{◌≡◌, ℕ, ◌-◌, ◌/◌, ◌≤◌, length, refl, ap, ◌∙◌, arith, rules}
-use Rattle.sha256.proofs.Pieces.{lent, length_block, absorbed_one}
+use Rattle.std.proofs.Common.{◌≡◌, ℕ, ◌/◌, length, refl, ap, ◌∙◌, arith}
+use Rattle.sha256.proofs.Pieces.{lent, absorbed_one}
 use Rattle.sha256.specs.Fips180.{K, next, Hⁱ, Hᴺ}
 use Rattle.sha256.proofs.block.absorb.Goals as goal
 
@@ -8,12 +8,11 @@ unfolding Hⁱ K
 loop-i-init c = (omega arith, refl, refl)
 
 pub loop-i-preserved : goal.loop-i-preserved
-loop-i-preserved c =
-    (
-      omega arith,
-      c.loop-i.invariant.1,
-      c.next-v.ensures ∙ ap (next c.loop-i.v) (lent c.args.m.now c.loop-i.i) ∙ absorbed_one c.args.s c.loop-i.v c.args.m.now c.loop-i.i c.loop-i.invariant.2,
-    )
+loop-i-preserved c = (
+  omega arith,
+  c.loop-i.invariant.1,
+  c.next-v.ensures ∙ ap (next c.loop-i.v) (lent c.args.m.now c.loop-i.i) ∙ absorbed_one c.args.s c.loop-i.v c.args.m.now c.loop-i.i c.loop-i.invariant.2,
+)
 
 pub returns : goal.returns
 unfolding Hᴺ

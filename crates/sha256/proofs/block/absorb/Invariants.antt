@@ -1,6 +1,5 @@
-use Rattle.std.proofs.Common.{◌≡◌, ℕ, ◌-◌, ◌/◌, ◌≤◌, length, refl, ap, ◌∙◌, arith, rules}
-use Rattle.sha256.proofs.Pieces.{lent, length_block, absorbed_one}
-use Rattle.sha256.specs.Fips180.{K, next, Hⁱ, Hᴺ}
+use Rattle.std.proofs.Common.{◌≡◌, ◌-◌, ◌≤◌}
+use Rattle.sha256.specs.Fips180.{K, Hⁱ}
 use Rattle.sha256.proofs.block.absorb.Given as goal
 
 abbrev pub invariant-loop-i : goal.invariant-loop-i

@@ -1,5 +1,5 @@
 use Rattle.std.proofs.Common.{arith}
-use Rattle.std.proofs.Common.{ℕ, ◌≤◌, sym, refl, ap, ◌∙◌, le_trans, add-zero, lit<, lit≤}
+use Rattle.std.proofs.Common.{ℕ, ◌≤◌, sym, refl, ap, ◌∙◌, le_trans, add-zero}
 use Rattle.sha256.proofs.Scheduling.{listed, constants, words, words_on, ring, After, further}
 use Rattle.sha256.specs.Fips180.{W, turns}
 use Rattle.sha256.proofs.block.along.Goals as goal

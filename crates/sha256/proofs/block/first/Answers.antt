@@ -1,5 +1,3 @@
-use Rattle.std.proofs.Common.{arith}
-use Rattle.std.proofs.Common.{rules}
 use Rattle.sha256.proofs.Scheduling.{given}
 use Rattle.sha256.proofs.block.first.Goals as goal
 

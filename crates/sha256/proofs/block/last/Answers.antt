@@ -1,5 +1,4 @@
-use Rattle.std.proofs.Common.{arith}
-use Rattle.std.proofs.Common.{ℕ, List, get_or, sym, ap, ◌∙◌, add-zero, lit<}
+use Rattle.std.proofs.Common.{ℕ, List, get_or, sym, ap, ◌∙◌, add-zero}
 use Rattle.sha256.proofs.Scheduling.{listed, constants, words, turned}
 use Rattle.sha256.specs.Fips180.{W, turns}
 use Rattle.sha256.proofs.block.last.Goals as goal

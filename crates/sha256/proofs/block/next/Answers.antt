@@ -1,5 +1,5 @@
-use Rattle.std.proofs.Common.{◌≡◌, ℕ, ◌-◌, ◌%◌, ◌≤◌, length, take, drop, refl, ap, ◌∙◌, arith, lit≤, rules}
-use Rattle.sha256.proofs.Scheduling.{front, length_K, lent, lent_last, length_lent}
+use Rattle.std.proofs.Common.{◌≡◌, ℕ, length, take, drop, refl, ap, ◌∙◌, arith}
+use Rattle.sha256.proofs.Scheduling.{front, length_K, lent_last, length_lent}
 use Rattle.sha256.specs.Fips180.{W, turns, next}
 use Rattle.sha256.proofs.block.next.Goals as goal
 

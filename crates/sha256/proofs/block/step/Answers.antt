@@ -1,4 +1,3 @@
-use Rattle.std.proofs.Common.{arith}
 use Rattle.std.proofs.Common.{rules}
 use Rattle.sha256.specs.Fips180.{K}
 use Rattle.sha256.proofs.block.step.Goals as goal

@@ -1,4 +1,4 @@
-use Rattle.std.proofs.Common.{◌≡◌, ◌*◌, ◌/◌, ◌%◌, arith, rules}
+use Rattle.std.proofs.Common.{◌≡◌, ◌*◌, ◌/◌, ◌%◌, arith}
 use Rattle.sha256.proofs.Ending.{of_bits}
 use Rattle.sha256.specs.Fips180.{bytes}
 use Rattle.sha256.proofs.tail.bit_count.Goals as goal

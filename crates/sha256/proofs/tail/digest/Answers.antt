@@ -1,4 +1,3 @@
-use Rattle.std.proofs.Common.{arith}
 use Rattle.std.proofs.Common.{rules}
 use Rattle.sha256.specs.Fips180.{bytes, digest}
 use Rattle.sha256.proofs.tail.digest.Goals as goal

@@ -1,5 +1,5 @@
-use Rattle.std.proofs.Common.{ℕ, ◌-◌, List, get_or, ◌∙◌, ap₂, arith, rules}
-use Rattle.sha256.proofs.Ending.{length_ended, in_rest, in_one, in_zeros, in_length}
+use Rattle.std.proofs.Common.{ℕ, ◌-◌, List, get_or, ◌∙◌, ap₂, arith}
+use Rattle.sha256.proofs.Ending.{length_ended, in_one, in_zeros, in_length}
 use Rattle.sha256.proofs.tail.end_byte.Goals as goal
 
 pub returns-then-i-rest-2 : goal.returns-then-i-rest-2

@@ -1,5 +1,4 @@
-use Rattle.std.proofs.Common.{◌≡◌, ℕ, ◌-◌, ◌≤◌, List, ◌++◌, length, take, refl, ◌∙◌, arith, length-set, rules}
-use Rattle.sha256.proofs.Ending.{filled, all_filled}
+use Rattle.std.proofs.Common.{◌≡◌, ◌-◌, ◌≤◌, ◌++◌, length, take}
 use Rattle.sha256.specs.Fips180.{padding}
 use Rattle.sha256.proofs.tail.fill.Given as goal
 

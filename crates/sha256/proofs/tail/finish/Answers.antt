@@ -1,5 +1,4 @@
-use Rattle.std.proofs.Common.{◌≡◌, ℕ, ◌+◌, ◌-◌, ◌*◌, ◌/◌, List, ◌++◌, length, take, drop, replicate, sym, ap, ◌∙◌, ap₂, arith, length-drop, length-take-le, take_all, take_at, rules}
-use lib.Seq.{length_front}
+use Rattle.std.proofs.Common.{◌≡◌, ℕ, ◌+◌, ◌-◌, ◌*◌, ◌/◌, List, ◌++◌, length, take, drop, replicate, ap, ◌∙◌, ap₂, arith, length-drop, length-take-le, take_all, take_at}
 use Rattle.sha256.proofs.Pieces.{finishing}
 use Rattle.sha256.specs.Fips180.{padding, Hᴺ, digest}
 use Rattle.sha256.proofs.tail.finish.Goals as goal

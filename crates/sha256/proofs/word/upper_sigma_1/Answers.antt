@@ -1,4 +1,4 @@
-use Rattle.std.proofs.Common.{ℕ, ap, ◌∙◌, arith, rules}
+use Rattle.std.proofs.Common.{ℕ, ap, ◌∙◌, arith}
 use lib.Bits.{bit_xor}
 use Rattle.sha256.proofs.Shorter.{three}
 use Rattle.sha256.specs.Fips180.{ROTR, Σ₁}
