@@ -78,3 +78,5 @@ filled out e i x h k same byte =
 
 pub all_filled : (out e : List ℕ) (i : ℕ) → i ≡ length out → length out ≡ length e → take i out ≡ take i e → out ≡ e
 all_filled out e i full same front = sym (take_all i out (omega arith)) ∙ front ∙ take_all i e (omega arith)
+
+pub ruleset ended = (length_ended)

@@ -20,6 +20,7 @@ pub fn finish(s: State, blocks: u32, rest: &[u8]) -> [u8; 32]
 }
 
 // How many bytes rest and the padding of a message of l bytes are: one block, or two where the first has no room for the length.
+#[tactic(auto, using(crate::proofs::Ending::ended))]
 fn end_len(rest: &[u8], l: u64) -> usize
     requires { length rest.now ≡ l % 64 }
     ensures value { result ≡ length (rest.now ++ padding l) }

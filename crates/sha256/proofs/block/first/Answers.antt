@@ -1,0 +1,5 @@
+use Rattle.sha256.proofs.Scheduling.{given}
+use Rattle.sha256.proofs.block.first.Goals as goal
+
+pub returns : goal.returns
+returns c = cc (given c.args.m.now)

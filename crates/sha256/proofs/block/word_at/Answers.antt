@@ -1,0 +1,6 @@
+use Rattle.std.proofs.Common.{rules}
+use Rattle.sha256.proofs.block.word_at.Goals as goal
+
+pub returns : goal.returns
+unfolding Rattle.sha256.specs.Fips180.word
+returns c = search rules

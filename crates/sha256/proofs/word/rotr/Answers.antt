@@ -1,0 +1,7 @@
+use Rattle.std.proofs.Common.{rules}
+use Rattle.sha256.specs.Fips180.{ROTR}
+use Rattle.sha256.proofs.word.rotr.Goals as goal
+
+pub returns : goal.returns
+unfolding ROTR
+returns c = search rules
