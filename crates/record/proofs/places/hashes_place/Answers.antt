@@ -1,0 +1,7 @@
+use native.Mathlib.Omega.{arith}
+use Rattle.record.proofs.Head.{head_below}
+use borrow.Author.Rules.{rules}
+use Rattle.record.proofs.places.hashes_place.Goals as goal
+
+pub overflow_add-result : goal.overflow_add-result
+overflow_add-result c = omega (arith, head_below c.args.version)

@@ -1,0 +1,8 @@
+use Rattle.std.proofs.Common.{arith}
+use Rattle.record.specs.Layout.{head}
+use borrow.Author.Rules.{rules}
+use Rattle.record.proofs.places.head.Goals as goal
+
+pub returns : goal.returns
+unfolding head
+returns c = search rules

@@ -1,0 +1,8 @@
+use Rattle.std.proofs.Common.{arith}
+use Rattle.record.proofs.Tests.{check_marked_test}
+use borrow.Author.Rules.{rules}
+use Rattle.record.proofs.shape.check_marked.Goals as goal
+
+pub returns : goal.returns
+returns c =
+    check_marked_test c.args.check.now _ _ _ c.marked.ensures c.version_of.ensures c.known.ensures

@@ -1,0 +1,8 @@
+use Rattle.std.proofs.Common.{arith}
+use Rattle.record.proofs.Tests.{marked_test}
+use borrow.Author.Rules.{rules}
+use Rattle.record.proofs.shape.marked.Goals as goal
+
+pub returns : goal.returns
+returns c =
+    marked_test c.args.mark c.args.s.now _ _ _ c.byte_at.ensures c.byte_at-2.ensures c.byte_at-3.ensures

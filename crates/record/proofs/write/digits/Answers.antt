@@ -1,0 +1,8 @@
+use Rattle.std.proofs.Common.{arith}
+use Rattle.record.specs.Layout.{big}
+use borrow.Author.Rules.{rules}
+use Rattle.record.proofs.write.digits.Goals as goal
+
+pub returns : goal.returns
+unfolding big
+returns c = search rules
