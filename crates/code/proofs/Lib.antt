@@ -9,3 +9,4 @@ pub mod Shares
 pub mod Spreads
 pub mod Sums
 pub mod Walks
+mod Worked
