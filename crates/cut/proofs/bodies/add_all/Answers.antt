@@ -1,0 +1,28 @@
+use mathlib.Core.Path.{◌≡◌, ap, sym, ◌∙◌}
+use Prim.Native.Nat.{◌≤◌}
+use lib.ListN.{length, length-replicate}
+use native.Mathlib.Omega.{arith}
+use Rattle.code.proofs.AtOnce.{coefficients_length}
+use Rattle.code.proofs.Walks.{all_small}
+use Rattle.cut.proofs.Sources.{Summed, summed_none, summed_more, summed_all}
+use borrow.Author.Rules.{rules}
+use Rattle.cut.proofs.bodies.add_all.Goals as goal
+
+pub loop-j-init : goal.loop-j-init
+loop-j-init c =
+    let count = ap length c.requires.coefficients_value ∙ coefficients_length _ c.args.index in
+    (omega arith, count, summed_none _ _ c.args.block.now c.args.coefficients.now count c.args.out.now c.requires.out_value)
+
+pub loop-j-preserved : goal.loop-j-preserved
+loop-j-preserved c =
+    (
+      omega arith,
+      c.loop-j.invariant.1,
+      summed_more _ _ c.args.block.now c.args.coefficients.now c.loop-j.invariant.1 c.loop-j.j c.loop-j.out c.add_scaled.new.sum _ c.own.result.now
+          c.loop-j-test.true c.loop-j.invariant.0 mathlib.Core.Path.refl c.own.ensures c.add_scaled.ensures c.loop-j.invariant.2,
+    )
+
+pub returns : goal.returns
+returns c =
+    summed_all _ _ c.args.block.now (omega arith) (all_small c.args.block.now (λ k. (c.type_inv.block k).fits)) _
+    (omega arith) c.args.coefficients.now c.loop-j.j c.loop-j.out c.requires.coefficients_value (omega arith) c.loop-j.invariant.2

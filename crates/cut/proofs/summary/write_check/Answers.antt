@@ -1,0 +1,38 @@
+use mathlib.Core.Path.{ap, ◌∙◌}
+use mathlib.Core.List.{List}
+use Prim.Native.Nat.{ℕ, ◌*◌}
+use native.Mathlib.Nat.{mul-le-mul_right}
+use lib.ListN.{length}
+use native.Mathlib.Omega.{arith}
+use borrow.Rule.Slice.PartMut.{mid_len}
+use Rattle.record.specs.Layout.{written_version, record_length}
+use Rattle.record.specs.Records.{check_head}
+use Rattle.record.proofs.ReadBack.{check_head_length}
+use Rattle.cut.specs.Cut.{check_of, body_among}
+use Rattle.cut.proofs.Records.{hashes_length, last_room, three_written, check_written}
+use Rattle.code.proofs.Longest.{body_length_fits}
+use borrow.Author.Rules.{rules}
+use Rattle.cut.proofs.summary.write_check.Goals as goal
+
+pub overflow_cast-size : goal.overflow_cast-size
+overflow_cast-size c = omega (arith, c.body_length-size.ensures, body_length_fits c.args.length c.args.m c.requires.le_m.2 c.requires.le_m.0)
+
+pub write_hashes-requires : goal.write_hashes-requires
+write_hashes-requires c =
+    record { out_len = (
+        mid_len c.hash_place-hashes.result c.prints_place-prints.result c.write_check_head.new.out (omega (arith, c.write_check_head.auto.out, c.requires.check_value, c.prints_place-prints.ensures))
+            ∙ omega (arith, c.prints_place-prints.ensures, c.hash_place-hashes.ensures),
+        omega (arith, c.body_length-size.ensures, body_length_fits c.args.length c.args.m c.requires.le_m.2 c.requires.le_m.0),
+      ); size_in_bounds = omega (arith, c.requires.fragments_value, ap (λ (F : ℕ). c.args.n * record_length written_version F) c.body_length-size.ensures) }
+
+pub returns : goal.returns
+returns c =
+    let bodies : ℕ → List ℕ = body_among c.body_length-size.result c.args.fragments.now in
+    let long = check_head_length written_version c.args.number c.args.length c.args.m c.args.n c.from_seed-y.result in
+    three_written (check_head written_version c.args.number c.args.length c.args.m c.args.n c.from_seed-y.result) c.args.check.now c.write_check_head.new.out c.write_hashes.new.out c.hash_place-hashes.result c.prints_place-prints.result
+    (omega (arith, long, c.hash_place-hashes.ensures))
+    (ap length c.write_hashes.ensures ∙ hashes_length c.args.n bodies ∙ omega (arith, c.hash_place-hashes.ensures, c.prints_place-prints.ensures))
+    (omega (arith, c.hash_place-hashes.ensures, c.prints_place-prints.ensures)) (omega (arith, c.requires.check_value, c.prints_place-prints.ensures))
+    c.write_check_head.ensures c.write_prints.new.out
+    ∙ check_written c.args.m c.args.n c.args.seed c.args.number c.args.length bodies c.from_seed-y.result c.write_hashes.new.out c.write_prints.new.out c.from_seed-y.ensures c.write_hashes.ensures c.write_prints.ensures
+    ∙ ap (λ (F : ℕ). check_of c.args.m c.args.n c.args.seed c.args.number c.args.length (body_among F c.args.fragments.now)) c.body_length-size.ensures
