@@ -1,0 +1,21 @@
+use mathlib.Core.Path.{◌≡◌}
+use mathlib.Core.Bool.{true, false}
+use Prim.Native.Nat.{◌≤◌}
+use native.Mathlib.Omega.{arith}
+use lib.ListN.{length, drop}
+use Rattle.join.specs.Join.{all_zero}
+use Rattle.join.proofs.Blocks.{fill_looked, zero_none, zero_more, zero_all, zero_not}
+use borrow.Author.Rules.{rules}
+use Rattle.join.proofs.block.looked_at.Goals as goal
+
+pub loop-k-init : goal.loop-k-init
+loop-k-init c = (omega arith, zero_none c.args.fill.now)
+
+pub returns-then-fill-k-ne0 : goal.returns-then-fill-k-ne0
+returns-then-fill-k-ne0 c =
+    let fill = c.args.fill.now in
+    fill_looked false fill (zero_not fill _ (omega arith) c.if-fill-k-ne0.true)
+
+pub loop-k-preserved : goal.loop-k-preserved
+loop-k-preserved c =
+    (omega arith, zero_more c.args.fill.now c.loop-k.k (omega arith) c.loop-k.invariant.0 c.if-fill-k-ne0.false c.loop-k.invariant.1)

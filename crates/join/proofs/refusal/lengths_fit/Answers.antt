@@ -1,0 +1,17 @@
+use native.Mathlib.Omega.{arith}
+use Rattle.gather.proofs.Places.{some_stride}
+use Rattle.join.proofs.Tested.{lengths}
+use borrow.Author.Rules.{rules}
+use Rattle.join.proofs.refusal.lengths_fit.Goals as goal
+
+pub nonzero_rem-result : goal.nonzero_rem-result
+nonzero_rem-result c =
+    omega (arith, c.stride-stride.ensures, some_stride c.args.check.now)
+
+pub nonzero_div-result : goal.nonzero_div-result
+nonzero_div-result c =
+    omega (arith, c.stride-stride.ensures, some_stride c.args.check.now)
+
+pub returns : goal.returns
+returns c =
+    lengths c.args.check.now c.args.records.now c.args.out.now _ c.read_check-head.ensures _ c.stride-stride.ensures

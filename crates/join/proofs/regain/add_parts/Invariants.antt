@@ -1,0 +1,14 @@
+use mathlib.Core.Path.{refl}
+use Prim.Native.Nat.{◌+◌, ◌-◌, ◌*◌, ◌≤◌}
+use native.Mathlib.Omega.{arith}
+use lib.ListN.{length, get_or}
+use Rattle.join.proofs.Summing.{Summed, summed_none, summed_skip, summed_more, summed_all, within_at, part_long, part_at}
+use borrow.Author.Rules.{rules}
+use Rattle.join.proofs.regain.add_parts.Given as goal
+
+abbrev pub invariant-loop-k : goal.invariant-loop-k
+invariant-loop-k l = (l.k ≤ length l.places) × Summed l.by l.places (length l.initial.out) (λ p place. get_or l.records (place * l.stride + (l.at + p)) 0) l.k l.out
+
+-- proposed from the loop's first test
+abbrev pub decreases-loop-k : goal.decreases-loop-k
+decreases-loop-k l = l.k
