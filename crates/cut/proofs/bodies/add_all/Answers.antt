@@ -1,11 +1,9 @@
 use mathlib.Core.Path.{◌≡◌, ap, sym, ◌∙◌}
-use Prim.Native.Nat.{◌≤◌}
-use lib.ListN.{length, length-replicate}
+use lib.ListN.{length}
 use native.Mathlib.Omega.{arith}
 use Rattle.code.proofs.AtOnce.{coefficients_length}
 use Rattle.code.proofs.Walks.{all_small}
-use Rattle.cut.proofs.Sources.{Summed, summed_none, summed_more, summed_all}
-use borrow.Author.Rules.{rules}
+use Rattle.cut.proofs.Sources.{summed_none, summed_more, summed_all}
 use Rattle.cut.proofs.bodies.add_all.Goals as goal
 
 pub loop-j-init : goal.loop-j-init
@@ -14,13 +12,12 @@ loop-j-init c =
     (omega arith, count, summed_none _ _ c.args.block.now c.args.coefficients.now count c.args.out.now c.requires.out_value)
 
 pub loop-j-preserved : goal.loop-j-preserved
-loop-j-preserved c =
-    (
-      omega arith,
-      c.loop-j.invariant.1,
-      summed_more _ _ c.args.block.now c.args.coefficients.now c.loop-j.invariant.1 c.loop-j.j c.loop-j.out c.add_scaled.new.sum _ c.own.result.now
-          c.loop-j-test.true c.loop-j.invariant.0 mathlib.Core.Path.refl c.own.ensures c.add_scaled.ensures c.loop-j.invariant.2,
-    )
+loop-j-preserved c = (
+  omega arith,
+  c.loop-j.invariant.1,
+  summed_more _ _ c.args.block.now c.args.coefficients.now c.loop-j.invariant.1 c.loop-j.j c.loop-j.out c.add_scaled.new.sum _ c.own.result.now
+      c.loop-j-test.true c.loop-j.invariant.0 mathlib.Core.Path.refl c.own.ensures c.add_scaled.ensures c.loop-j.invariant.2,
+)
 
 pub returns : goal.returns
 returns c =

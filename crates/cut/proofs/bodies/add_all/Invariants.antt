@@ -1,11 +1,7 @@
-use mathlib.Core.Path.{◌≡◌, ap, sym, ◌∙◌}
+use mathlib.Core.Path.{◌≡◌}
 use Prim.Native.Nat.{◌≤◌}
-use lib.ListN.{length, length-replicate}
-use native.Mathlib.Omega.{arith}
-use Rattle.code.proofs.AtOnce.{coefficients_length}
-use Rattle.code.proofs.Walks.{all_small}
-use Rattle.cut.proofs.Sources.{Summed, summed_none, summed_more, summed_all}
-use borrow.Author.Rules.{rules}
+use lib.ListN.{length}
+use Rattle.cut.proofs.Sources.{Summed}
 use Rattle.cut.proofs.bodies.add_all.Given as goal
 
 abbrev pub invariant-loop-j : goal.invariant-loop-j

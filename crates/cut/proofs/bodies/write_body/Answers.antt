@@ -4,11 +4,10 @@ use Prim.Native.Nat.{ℕ}
 use lib.ListN.{take, replicate}
 use native.Mathlib.Omega.{arith}
 use Rattle.code.proofs.AtOnce.{coefficients_all}
-use Rattle.code.proofs.Rooms.{lent, back, back_count, back_within}
+use Rattle.code.proofs.Rooms.{lent, back}
 use Rattle.code.proofs.Walks.{all_small}
 use Rattle.record.specs.Put.{put}
 use Rattle.cut.proofs.Sources.{own_body, zeros_of}
-use borrow.Author.Rules.{rules}
 use Rattle.cut.proofs.bodies.write_body.Goals as goal
 
 pub returns-then-index-m : goal.returns-then-index-m
@@ -19,6 +18,9 @@ returns-then-index-m c =
 
 pub add_all-requires : goal.add_all-requires
 add_all-requires c =
-    let part = c.each_share.new.out in record { out_value = zeros_of c.args.out.now c.clear.new.sum _ c.clear.ensures c.requires.out_len; coefficients_value = back c.args.m (replicate 255 0) (omega arith) part c.each_share.auto.out
+    let part = c.each_share.new.out in record {
+      out_value = zeros_of c.args.out.now c.clear.new.sum _ c.clear.ensures c.requires.out_len;
+      coefficients_value = back c.args.m (replicate 255 0) (omega arith) part c.each_share.auto.out
           ∙ coefficients_all _ (omega arith) _ (omega arith) c.args.points.now c.args.spreads.now (take c.args.m (replicate 255 0)) part
-          c.requires.points_value c.requires.spreads_value (sym (lent c.args.m (replicate 255 0) (omega arith))) c.each_share.ensures }
+          c.requires.points_value c.requires.spreads_value (sym (lent c.args.m (replicate 255 0) (omega arith))) c.each_share.ensures;
+    }

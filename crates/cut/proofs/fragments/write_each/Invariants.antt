@@ -1,12 +1,8 @@
-use mathlib.Core.Path.{ap, ◌∙◌}
-use Prim.Native.Nat.{ℕ, ◌≤◌, ◌+◌, ◌-◌, ◌*◌}
-use native.Mathlib.Omega.{arith}
+use Prim.Native.Nat.{◌≤◌, ◌-◌}
 use Rattle.code.specs.Cutting.{body}
 use Rattle.record.specs.Layout.{written_version, record_length}
 use Rattle.record.specs.Records.{fragment_record}
-use Rattle.cut.proofs.Filling.{Filled, filled_none, filled_more, filled_all, part_room, within}
-use Rattle.cut.proofs.Records.{one_record}
-use borrow.Author.Rules.{rules}
+use Rattle.cut.proofs.Filling.{Filled}
 use Rattle.cut.proofs.fragments.write_each.Given as goal
 
 abbrev pub invariant-loop-index : goal.invariant-loop-index

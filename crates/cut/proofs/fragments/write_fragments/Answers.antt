@@ -3,12 +3,10 @@ use Prim.Native.Nat.{ℕ, ◌*◌}
 use lib.ListN.{length, take, replicate}
 use native.Mathlib.Omega.{arith}
 use Rattle.code.proofs.AtOnce.{points_first, points_count, spread_all}
-use Rattle.code.proofs.Bodies.{points_length}
 use Rattle.code.proofs.Longest.{body_length_fits}
-use Rattle.code.proofs.Rooms.{lent, back, back_count, back_within}
+use Rattle.code.proofs.Rooms.{lent, back}
 use Rattle.record.specs.Layout.{written_version, record_length}
 use Rattle.cut.proofs.Records.{fragments_of}
-use borrow.Author.Rules.{rules}
 use Rattle.cut.proofs.fragments.write_fragments.Goals as goal
 
 pub overflow_cast-size : goal.overflow_cast-size
@@ -17,9 +15,14 @@ overflow_cast-size c = omega (arith, c.body_length-size.ensures, body_length_fit
 pub write_each-requires : goal.write_each-requires
 write_each-requires c =
     let m = c.args.m in
-    let part = c.each_spread.new.out in record { m_le_n = c.requires.le_m.1; points_value = points_first m 255 m c.points-points.result (omega arith) refl c.points-points.ensures; spreads_value = back m (replicate 255 0) (omega arith) part c.each_spread.auto.out
-              ∙ spread_all (take m c.points-points.result) (take m (replicate 255 0)) part
-              (sym (lent m (replicate 255 0) (omega arith)) ∙ sym (points_count m 255 m c.points-points.result (omega arith) refl c.points-points.ensures)) c.each_spread.ensures; fragments_len = c.requires.fragments_len ∙ sym (ap (λ (F : ℕ). c.args.n * record_length written_version F) c.body_length-size.ensures) }
+    let part = c.each_spread.new.out in record {
+      m_le_n = c.requires.le_m.1;
+      points_value = points_first m 255 m c.points-points.result (omega arith) refl c.points-points.ensures;
+      spreads_value = back m (replicate 255 0) (omega arith) part c.each_spread.auto.out
+          ∙ spread_all (take m c.points-points.result) (take m (replicate 255 0)) part
+          (sym (lent m (replicate 255 0) (omega arith)) ∙ sym (points_count m 255 m c.points-points.result (omega arith) refl c.points-points.ensures)) c.each_spread.ensures;
+      fragments_len = c.requires.fragments_len ∙ sym (ap (λ (F : ℕ). c.args.n * record_length written_version F) c.body_length-size.ensures);
+    }
 
 pub returns : goal.returns
 returns c = c.write_each.ensures ∙ fragments_of _ _ _ _ c.args.block.now c.body_length-size.ensures

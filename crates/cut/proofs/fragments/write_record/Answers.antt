@@ -1,6 +1,4 @@
-use native.Mathlib.Omega.{arith}
-use Rattle.cut.proofs.Records.{body_size, rest_room, record_written}
-use borrow.Author.Rules.{rules}
+use Rattle.cut.proofs.Records.{body_size, record_written}
 use Rattle.cut.proofs.fragments.write_record.Goals as goal
 
 pub returns : goal.returns

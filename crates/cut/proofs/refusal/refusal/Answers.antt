@@ -1,14 +1,12 @@
 use mathlib.Core.Path.{sym, ◌∙◌}
 use lib.ListN.{length}
 use native.Mathlib.Omega.{arith}
-use borrow.Author.Tests.{not-true, not-false}
 use Rattle.record.specs.Layout.{written_version}
 use Rattle.record.proofs.Head.{head_below}
 use Rattle.code.proofs.Longest.{body_length_fits}
 use Rattle.record.proofs.Counts.{counted}
 use Rattle.cut.proofs.Refusals.{other_counts, too_long, no_seed, other_records, other_check, nothing_refused}
 use Rattle.cut.proofs.Sources.{place_fits}
-use borrow.Author.Rules.{rules}
 use Rattle.cut.proofs.refusal.refusal.Goals as goal
 
 pub returns-then-not-counts_fit : goal.returns-then-not-counts_fit

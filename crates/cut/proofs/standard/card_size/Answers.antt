@@ -2,7 +2,6 @@ use native.Mathlib.Omega.{arith}
 use Rattle.cut.specs.Standard.{m}
 use Rattle.cut.proofs.Planning.{no_plan, plan}
 use Rattle.code.proofs.Longest.{body_length_fits}
-use borrow.Author.Rules.{rules}
 use Rattle.cut.proofs.standard.card_size.Goals as goal
 
 pub returns-then-length : goal.returns-then-length

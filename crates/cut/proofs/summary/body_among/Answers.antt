@@ -1,8 +1,4 @@
-use mathlib.Core.Path.{ap}
-use Prim.Native.Nat.{ℕ, ◌*◌}
-use native.Mathlib.Omega.{arith}
 use Rattle.cut.proofs.Among.{among_part}
-use borrow.Author.Rules.{rules}
 use Rattle.cut.proofs.summary.body_among.Goals as goal
 
 pub returns : goal.returns

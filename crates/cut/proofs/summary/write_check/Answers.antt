@@ -1,7 +1,6 @@
 use mathlib.Core.Path.{ap, ◌∙◌}
 use mathlib.Core.List.{List}
 use Prim.Native.Nat.{ℕ, ◌*◌}
-use native.Mathlib.Nat.{mul-le-mul_right}
 use lib.ListN.{length}
 use native.Mathlib.Omega.{arith}
 use borrow.Rule.Slice.PartMut.{mid_len}
@@ -9,9 +8,8 @@ use Rattle.record.specs.Layout.{written_version, record_length}
 use Rattle.record.specs.Records.{check_head}
 use Rattle.record.proofs.ReadBack.{check_head_length}
 use Rattle.cut.specs.Cut.{check_of, body_among}
-use Rattle.cut.proofs.Records.{hashes_length, last_room, three_written, check_written}
+use Rattle.cut.proofs.Records.{hashes_length, three_written, check_written}
 use Rattle.code.proofs.Longest.{body_length_fits}
-use borrow.Author.Rules.{rules}
 use Rattle.cut.proofs.summary.write_check.Goals as goal
 
 pub overflow_cast-size : goal.overflow_cast-size
@@ -19,11 +17,14 @@ overflow_cast-size c = omega (arith, c.body_length-size.ensures, body_length_fit
 
 pub write_hashes-requires : goal.write_hashes-requires
 write_hashes-requires c =
-    record { out_len = (
+    record {
+      out_len = (
         mid_len c.hash_place-hashes.result c.prints_place-prints.result c.write_check_head.new.out (omega (arith, c.write_check_head.auto.out, c.requires.check_value, c.prints_place-prints.ensures))
             ∙ omega (arith, c.prints_place-prints.ensures, c.hash_place-hashes.ensures),
         omega (arith, c.body_length-size.ensures, body_length_fits c.args.length c.args.m c.requires.le_m.2 c.requires.le_m.0),
-      ); size_in_bounds = omega (arith, c.requires.fragments_value, ap (λ (F : ℕ). c.args.n * record_length written_version F) c.body_length-size.ensures) }
+      );
+      size_in_bounds = omega (arith, c.requires.fragments_value, ap (λ (F : ℕ). c.args.n * record_length written_version F) c.body_length-size.ensures);
+    }
 
 pub returns : goal.returns
 returns c =
