@@ -1,11 +1,9 @@
 -- The three ways in which a result is given: refused by the operation, refused for its buffer, and put there.
 -- Assumes nothing.
-use mathlib.Core.Path.{◌≡◌, refl, ap₂, ◌∙◌}
+use mathlib.Core.Path.{◌≡◌, refl}
 use Prim.Native.Nat.{ℕ}
-use native.Mathlib.Omega.{arith}
-use mathlib.Core.List.{List, ◌++◌}
-use lib.ListN.{length, take, drop, drop_of_length-le}
-use lib.Seq.{take-length}
+use mathlib.Core.List.{List}
+use lib.ListN.{length}
 use borrow.Author.Tests.{eq-eqb, ne_eqb}
 use Rattle.cut.specs.Cut.{held}
 use Rattle.abi.specs.Abi.{numbered}
@@ -21,9 +19,6 @@ unfolding numbered
 other number n result buffer e h = (simp (eq-eqb number 0 e, ne_eqb (length buffer) n h), refl)
 
 pub put : (number : ℕ) (result buffer : List ℕ) → number ≡ 0 → length buffer ≡ length result
-    → (0 ≡ numbered number (length result) buffer) × (take (length result) result ++ drop (length result) buffer ≡ held 0 result buffer)
+    → (0 ≡ numbered number (length result) buffer) × (result ≡ held 0 result buffer)
 unfolding numbered
-put number result buffer e h = (
-  simp (eq-eqb number 0 e, eq-eqb (length buffer) (length result) h),
-  ap₂ ◌++◌ (take-length result) (drop_of_length-le buffer {i = length result} (omega arith)) ∙ simp mathlib.Core.List.append-nil,
-)
+put number result buffer e h = (simp (eq-eqb number 0 e, eq-eqb (length buffer) (length result) h), refl)

@@ -1,7 +1,7 @@
-// What C and Rust link, as `include/ruwekiha.h` declares it. Each function gives the number of document 01 and asks nothing of
-// its caller. A `&[u8]` is a pointer and a length; further values go through pointers that are always written, 0 where the
-// document gives none. On a refusal each lent buffer holds what it held. The header's `record` is `fragment` here, since contracts
-// have another use for that word.
+// What C and Rust link, as `include/ruwekiha.h` declares it; `abi_c` exports each function to C by its name. Each gives the number of
+// document 01 and asks nothing of its caller. To C a `&[u8]` is a pointer and a length; further values go through pointers that are
+// always written, 0 where the document gives none. On a refusal each lent buffer holds what it held. The header's `record` is
+// `fragment` here, since contracts have another use for that word.
 #![tactic(auto)]
 
 mod verdicts;
@@ -19,8 +19,7 @@ ghost use Rattle.abi.specs.Abi.{numbered};
 
 use verdicts::in_numbers;
 
-#[unsafe(no_mangle)]
-pub extern "C" fn rwk_cut(
+pub fn rwk_cut(
     m: u32,
     n: u32,
     seed: u32,
@@ -36,8 +35,7 @@ pub extern "C" fn rwk_cut(
     cut::cut(m, n, seed, number, block, fragments, check)
 }
 
-#[unsafe(no_mangle)]
-pub extern "C" fn rwk_cut_standard(
+pub fn rwk_cut_standard(
     seed: u32,
     number: u64,
     block: &[u8],
@@ -51,8 +49,7 @@ pub extern "C" fn rwk_cut_standard(
     cut::cut_standard(seed, number, block, fragments, check)
 }
 
-#[unsafe(no_mangle)]
-pub extern "C" fn rwk_card_size(length: u64, size: &mut u64) -> u32
+pub fn rwk_card_size(length: u64, size: &mut u64) -> u32
     ensures value { result ≡ (standard.planned length).number }
     ensures size_after { size.new ≡ (standard.planned length).size }
 {
@@ -61,8 +58,7 @@ pub extern "C" fn rwk_card_size(length: u64, size: &mut u64) -> u32
     planned.number
 }
 
-#[unsafe(no_mangle)]
-pub extern "C" fn rwk_check(wanted: u64, check: &[u8], fragment: &[u8], value: &mut u64) -> u32
+pub fn rwk_check(wanted: u64, check: &[u8], fragment: &[u8], value: &mut u64) -> u32
     ensures value { result ≡ (checked wanted check.now fragment.now).number }
     ensures value_after { value.new ≡ (checked wanted check.now fragment.now).value }
 {
@@ -71,8 +67,7 @@ pub extern "C" fn rwk_check(wanted: u64, check: &[u8], fragment: &[u8], value: &
     answer.number
 }
 
-#[unsafe(no_mangle)]
-pub extern "C" fn rwk_open(
+pub fn rwk_open(
     wanted: u64,
     check: &[u8],
     fragment: &[u8],
@@ -95,8 +90,7 @@ pub extern "C" fn rwk_open(
     0
 }
 
-#[unsafe(no_mangle)]
-pub extern "C" fn rwk_join(
+pub fn rwk_join(
     wanted: u64,
     check: &[u8],
     records: &[u8],
@@ -115,8 +109,7 @@ pub extern "C" fn rwk_join(
     joined.number
 }
 
-#[unsafe(no_mangle)]
-pub extern "C" fn rwk_sha256(body: &[u8], digest: &mut [u8]) -> u32
+pub fn rwk_sha256(body: &[u8], digest: &mut [u8]) -> u32
     ensures value { result ≡ numbered (answered body.now).number 32 digest.old }
     ensures digest_after { digest.new ≡ cutting.held result (answered body.now).digest digest.old }
 {
@@ -125,8 +118,7 @@ pub extern "C" fn rwk_sha256(body: &[u8], digest: &mut [u8]) -> u32
     give(hashed.number, &result, digest)
 }
 
-#[unsafe(no_mangle)]
-pub extern "C" fn rwk_fingerprint(seed: u32, body: &[u8], column: &mut [u8]) -> u32
+pub fn rwk_fingerprint(seed: u32, body: &[u8], column: &mut [u8]) -> u32
     ensures value { result ≡ numbered (fingerprinted seed body.now).number 3 column.old }
     ensures column_after { column.new ≡ cutting.held result (column_bytes (fingerprinted seed body.now).column) column.old }
 {
@@ -146,6 +138,6 @@ fn give(number: u32, res: &[u8], buffer: &mut [u8]) -> u32
     if buffer.len() != res.len() {
         return 4;
     }
-    bytes::copy(res, buffer);
+    buffer.copy_from_slice(res);
     0
 }
