@@ -44,6 +44,7 @@ picked : (m n number : ℕ) (block check : List ℕ) → Honest m n number block
     → All (λ u. (u.index < n) × (record_at check records u.place ≡ fragment_record written_version number u.index (cut.body_of m block u.index))) us
     → (i : ℕ) → In i (indexes us) → body_with check records us i ≡ body m (body_length (length block) m) block i
 unfolding body_with cut.body_of
+picked m n number block check honest records mathlib.Core.List.[] own i q = elim q [ ]
 picked m n number block check honest records (u ∷ us) own i q = go (eqb u.index i) refl (picked m n number block check honest records us own.1 i) q
   where
     Goal : Bool → Type 0
