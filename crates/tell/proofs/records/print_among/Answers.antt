@@ -1,0 +1,11 @@
+use mathlib.Core.Path.{ap}
+use Prim.Native.Nat.{ℕ, ◌*◌}
+use native.Mathlib.Omega.{arith}
+use Rattle.tell.proofs.Shown.{print_is}
+use borrow.Author.Rules.{rules}
+use Rattle.tell.proofs.records.print_among.Goals as goal
+
+pub returns : goal.returns
+returns c =
+    print_is c.args.size c.args.seed c.args.fragments.now c.args.index c.record_length-step.result c.body_place.result c.fingerprint-print.result
+    c.record_length-step.ensures c.body_place.ensures c.requires.size_in_bounds c.requires.size_le_longest_body.0 c.requires.size_le_longest_body.1 c.requires.size_le_longest_body.2 c.fingerprint-print.ensures

@@ -1,0 +1,8 @@
+use Rattle.std.proofs.Common.{arith}
+use Rattle.tell.proofs.Choice.{at_start}
+use borrow.Author.Rules.{rules}
+use Rattle.tell.proofs.tell.Goals as goal
+
+pub returns : goal.returns
+returns c =
+    record { value = c.tell_within.ensures.value; text_after = at_start c.args.text.now _ c.tell_within.new.text c.tell_within.result c.tell_within.ensures.value c.tell_within.ensures.text_after }

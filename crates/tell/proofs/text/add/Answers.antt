@@ -1,0 +1,8 @@
+use Rattle.std.proofs.Common.{arith}
+use mathlib.Core.Path.{refl}
+use Rattle.tell.proofs.Adding.{put_placed}
+use borrow.Author.Rules.{rules}
+use Rattle.tell.proofs.text.add.Goals as goal
+
+pub returns : goal.returns
+returns c = record { value = refl; text_after = put_placed c.args.text.now c.args.bytes.now c.put.new.out c.args.at c.requires c.put.ensures }
