@@ -1,5 +1,5 @@
 -- Document 01's coefficients of bodies 3 and 4 for m = 3, by value: an edit of the definition has to give other bytes here.
-use Rattle.std.proofs.Common.{◌≡◌, List, [], ◌∷◌, map, refl}
+use Rattle.std.proofs.Common.{◌≡◌, [], ◌∷◌, map, refl}
 use Rattle.algebra.specs.Several.{listed}
 use Rattle.algebra.specs.Polynomial.{value, raised, slopes, interpolate, only, coefficient}
 use Rattle.field.specs.Byte.{plus, xtime, product, times, inverse_below, inverse}

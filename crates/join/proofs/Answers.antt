@@ -16,7 +16,7 @@ use Rattle.code.proofs.Plain.{Small}
 use Rattle.record.specs.declared.CheckHead.{CheckHead}
 use Rattle.record.specs.Layout.{hashes_place}
 use Rattle.record.specs.Heads.{check_head_of, check_marked, check_shaped, counts_fit}
-use Rattle.inspect.specs.Answer.{Answer, accepted}
+use Rattle.inspect.specs.Answer.{Answer}
 use Rattle.inspect.specs.Check.{size_of, checked, conditions}
 use Rattle.inspect.proofs.Exact.{accepted_exactly, all_hold}
 use Rattle.inspect.proofs.Called.{index_below}

@@ -1,9 +1,6 @@
 use Prim.Native.Nat.{◌-◌, ◌≤◌, min}
-use native.Mathlib.Omega.{arith}
 use lib.ListN.{length}
-use Rattle.field.proofs.Added.{Adding, add_start, add_turn, add_end}
-use Rattle.code.proofs.Sums.{row_read}
-use borrow.Author.Rules.{rules}
+use Rattle.field.proofs.Added.{Adding}
 use Rattle.code.proofs.add_scaled.Given as goal
 
 abbrev pub invariant-loop-k : goal.invariant-loop-k

@@ -1,6 +1,4 @@
-use native.Mathlib.Omega.{arith}
-use Rattle.code.proofs.Lengths.{no_bodies, some_bodies, length_fits}
-use borrow.Author.Rules.{rules}
+use Rattle.code.proofs.Lengths.{no_bodies, some_bodies}
 use Rattle.code.proofs.body_length.Goals as goal
 
 pub returns-then-m-eq0 : goal.returns-then-m-eq0

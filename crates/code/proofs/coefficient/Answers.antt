@@ -1,8 +1,6 @@
-use mathlib.Core.Path.{sym, ap, ◌∙◌}
+use mathlib.Core.Path.{sym, ◌∙◌}
 use native.Mathlib.Omega.{arith}
-use lib.ListN.{length}
-use lib.Seq.{length-take-le}
-use Rattle.code.proofs.Bodies.{points_length, coefficient_one, coefficient_none, coefficient_read, coefficient_beyond}
+use Rattle.code.proofs.Bodies.{coefficient_one, coefficient_none, coefficient_read, coefficient_beyond}
 use borrow.Author.Rules.{rules}
 use Rattle.code.proofs.coefficient.Goals as goal
 

@@ -1,9 +1,5 @@
-use mathlib.Core.Path.{refl}
 use Prim.Native.Nat.{◌-◌, ◌≤◌}
-use native.Mathlib.Omega.{arith}
-use Rattle.code.specs.Cutting.{points}
-use Rattle.code.proofs.Walks.{Listed, listed_none, listed_put, listed_all}
-use borrow.Author.Rules.{rules}
+use Rattle.code.proofs.Walks.{Listed}
 use Rattle.code.proofs.points.Given as goal
 
 abbrev pub invariant-loop-point : goal.invariant-loop-point

@@ -1,6 +1,4 @@
-use Rattle.std.proofs.Common.{arith}
 use Rattle.code.specs.Weights.{spread}
-use borrow.Author.Rules.{rules}
 use Rattle.code.proofs.spread.Goals as goal
 
 pub returns : goal.returns

@@ -1,4 +1,3 @@
-use Rattle.std.proofs.Common.{arith}
 use mathlib.Core.Path.{sym, ap₂, ◌∙◌}
 use Prim.Native.Nat.{ℕ}
 use Rattle.field.specs.Byte.{times, inverse}

@@ -1,9 +1,7 @@
-use Rattle.std.proofs.Common.{arith}
 use mathlib.Core.Path.{sym, ap, ◌∙◌}
 use Rattle.field.specs.Byte.{inverse}
 use Rattle.field.proofs.Inverses.{inverse_none}
 use Rattle.field.proofs.Lookups.{look_inverse}
-use borrow.Author.Rules.{rules}
 use Rattle.field.proofs.inverse.Goals as goal
 
 pub returns-then-a-eq0 : goal.returns-then-a-eq0

@@ -1,4 +1,3 @@
-use Rattle.std.proofs.Common.{arith}
 use mathlib.Core.Path.{refl}
 use Rattle.field.specs.Byte.{plus}
 use Rattle.field.proofs.plus.Goals as goal

@@ -1,9 +1,7 @@
-use Rattle.std.proofs.Common.{arith}
 use mathlib.Core.Path.{ap, ◌∙◌}
 use Rattle.field.specs.Byte.{inverse}
 use Rattle.field.proofs.Inverses.{inverse_none}
 use Rattle.field.proofs.Lookups.{none_left, none_right, look_quotient}
-use borrow.Author.Rules.{rules}
 use Rattle.field.proofs.quotient.Goals as goal
 
 pub returns-then-a-eq0 : goal.returns-then-a-eq0

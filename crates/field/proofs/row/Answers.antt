@@ -1,8 +1,5 @@
-use Prim.Native.Nat.{◌≤◌, ◌-◌}
 use native.Mathlib.Omega.{arith}
-use Rattle.field.proofs.Lookups.{look_lt}
-use Rattle.field.proofs.Rows.{Filled, start, fill_read, filled, row_none}
-use borrow.Author.Rules.{rules}
+use Rattle.field.proofs.Rows.{start, fill_read, filled, row_none}
 use Rattle.field.proofs.row.Goals as goal
 
 pub returns-then-by-eq0 : goal.returns-then-by-eq0
@@ -12,8 +9,7 @@ pub loop-k-init : goal.loop-k-init
 loop-k-init c = (omega arith, start _)
 
 pub loop-k-preserved : goal.loop-k-preserved
-loop-k-preserved c =
-    (
+loop-k-preserved c = (
   omega arith,
   fill_read _ _ _ _ _ _ c.powers-table.ensures (omega arith)
       (c.place-at.ensures.1 c.if-by-eq0.false)

@@ -1,8 +1,5 @@
 use Prim.Native.Nat.{◌≤◌, ◌-◌}
-use native.Mathlib.Omega.{arith}
-use Rattle.field.proofs.Lookups.{look_lt}
-use Rattle.field.proofs.Rows.{Filled, start, fill_read, filled, row_none}
-use borrow.Author.Rules.{rules}
+use Rattle.field.proofs.Rows.{Filled}
 use Rattle.field.proofs.row.Given as goal
 
 abbrev pub invariant-loop-k : goal.invariant-loop-k

@@ -1,6 +1,5 @@
 use native.Mathlib.Omega.{arith}
 use Rattle.field.proofs.Lookups.{none_left, none_right, look_times}
-use borrow.Author.Rules.{rules}
 use Rattle.field.proofs.times.Goals as goal
 
 pub returns-then-a-eq0 : goal.returns-then-a-eq0

@@ -5,10 +5,9 @@ use native.Mathlib.Omega.{arith}
 use lib.ListN.{take, replicate}
 use Rattle.algebra.specs.Combination.{combined}
 use Rattle.column.specs.Column.{column_space}
-use Rattle.code.proofs.Rooms.{lent, back, back_count, back_within}
+use Rattle.code.proofs.Rooms.{lent, back}
 use Rattle.fingerprint.specs.Fingerprint.{columns_of}
 use Rattle.fingerprint.proofs.Called.{called_own, called_all}
-use borrow.Author.Rules.{rules}
 use Rattle.fingerprint.proofs.called_for.Goals as goal
 
 pub returns-then-i-m : goal.returns-then-i-m

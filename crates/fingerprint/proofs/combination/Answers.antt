@@ -1,12 +1,7 @@
-use mathlib.Core.Path.{◌≡◌, refl, ◌∙◌}
-use Prim.Native.Nat.{◌≤◌}
+use mathlib.Core.Path.{refl, ◌∙◌}
 use native.Mathlib.Omega.{arith}
-use lib.ListN.{length, drop}
-use Rattle.algebra.specs.Combination.{combined}
-use Rattle.column.specs.Column.{column_space}
 use Rattle.fingerprint.specs.Fingerprint.{columns_of}
-use Rattle.fingerprint.proofs.Called.{sum_start, sum_turn, sum_all}
-use borrow.Author.Rules.{rules}
+use Rattle.fingerprint.proofs.Called.{sum_start, sum_turn}
 use Rattle.fingerprint.proofs.combination.Goals as goal
 
 pub loop-j-init : goal.loop-j-init
@@ -14,10 +9,9 @@ loop-j-init c =
     (omega arith, sum_start c.args.coefficients.now (columns_of c.args.prints.now) _ c.requires)
 
 pub loop-j-preserved : goal.loop-j-preserved
-loop-j-preserved c =
-    (
-      omega arith,
-      c.plus-sum.ensures
-          ∙ sum_turn c.args.coefficients.now (columns_of c.args.prints.now) c.loop-j.j _ _ _ _ (omega arith) c.loop-j.invariant.0 refl
-          c.print_at.ensures c.scaled.ensures c.loop-j.invariant.1,
-    )
+loop-j-preserved c = (
+  omega arith,
+  c.plus-sum.ensures
+      ∙ sum_turn c.args.coefficients.now (columns_of c.args.prints.now) c.loop-j.j _ _ _ _ (omega arith) c.loop-j.invariant.0 refl
+      c.print_at.ensures c.scaled.ensures c.loop-j.invariant.1,
+)

@@ -1,12 +1,9 @@
-use mathlib.Core.Path.{◌≡◌, refl, ◌∙◌}
+use mathlib.Core.Path.{◌≡◌}
 use Prim.Native.Nat.{◌≤◌}
-use native.Mathlib.Omega.{arith}
 use lib.ListN.{length, drop}
 use Rattle.algebra.specs.Combination.{combined}
 use Rattle.column.specs.Column.{column_space}
 use Rattle.fingerprint.specs.Fingerprint.{columns_of}
-use Rattle.fingerprint.proofs.Called.{sum_start, sum_turn, sum_all}
-use borrow.Author.Rules.{rules}
 use Rattle.fingerprint.proofs.combination.Given as goal
 
 abbrev pub invariant-loop-j : goal.invariant-loop-j

@@ -1,9 +1,8 @@
-use mathlib.Core.Path.{◌≡◌, ◌∙◌}
-use Prim.Native.Nat.{◌-◌, ◌%◌, ◌≤◌}
+use mathlib.Core.Path.{◌∙◌}
+use Prim.Native.Nat.{◌-◌, ◌%◌}
 use native.Mathlib.Omega.{arith}
 use lib.ListN.{length}
-use Rattle.fingerprint.proofs.Steps.{halves_from, Passed, odd_last, turn, all_passed}
-use borrow.Author.Rules.{rules}
+use Rattle.fingerprint.proofs.Steps.{halves_from, odd_last, turn, all_passed}
 use Rattle.fingerprint.proofs.evaluated.Goals as goal
 
 pub loop-k-init : goal.loop-k-init
@@ -16,13 +15,12 @@ loop-k-init c =
     )
 
 pub loop-k-preserved : goal.loop-k-preserved
-loop-k-preserved c =
-    (
-      omega arith,
-      omega arith,
-      turn c.args.table.now c.args.body.now (λ k. (c.type_inv.body k).fits) c.loop-k.k _ _ _ _
-          (omega arith) (omega arith) c.packed-column.ensures c.looked_up.ensures c.loop-k.invariant.2,
-    )
+loop-k-preserved c = (
+  omega arith,
+  omega arith,
+  turn c.args.table.now c.args.body.now (λ k. (c.type_inv.body k).fits) c.loop-k.k _ _ _ _
+      (omega arith) (omega arith) c.packed-column.ensures c.looked_up.ensures c.loop-k.invariant.2,
+)
 
 pub returns : goal.returns
 returns c =

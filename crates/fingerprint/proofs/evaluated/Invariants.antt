@@ -1,9 +1,7 @@
-use mathlib.Core.Path.{◌≡◌, ◌∙◌}
-use Prim.Native.Nat.{◌-◌, ◌%◌, ◌≤◌}
-use native.Mathlib.Omega.{arith}
+use mathlib.Core.Path.{◌≡◌}
+use Prim.Native.Nat.{◌%◌, ◌≤◌}
 use lib.ListN.{length}
-use Rattle.fingerprint.proofs.Steps.{halves_from, Passed, odd_last, turn, all_passed}
-use borrow.Author.Rules.{rules}
+use Rattle.fingerprint.proofs.Steps.{Passed}
 use Rattle.fingerprint.proofs.evaluated.Given as goal
 
 abbrev pub invariant-loop-k : goal.invariant-loop-k

@@ -2,7 +2,6 @@ use mathlib.Core.Path.{◌∙◌}
 use native.Mathlib.Omega.{arith}
 use Rattle.code.proofs.Walks.{all_small}
 use Rattle.fingerprint.proofs.Exits.{too_long, no_seed, no_columns, done}
-use borrow.Author.Rules.{rules}
 use Rattle.fingerprint.proofs.fingerprint.Goals as goal
 
 pub returns-then-body-gt-LONGEST_BODY : goal.returns-then-body-gt-LONGEST_BODY

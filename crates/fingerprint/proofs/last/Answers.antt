@@ -4,7 +4,6 @@ use native.Mathlib.Omega.{arith}
 use Rattle.column.proofs.Seed.{column_path}
 use Rattle.fingerprint.specs.Horner.{packed}
 use Rattle.fingerprint.proofs.Steps.{halves_from, even_none, odd_none, even_next}
-use borrow.Author.Rules.{rules}
 use Rattle.fingerprint.proofs.last.Goals as goal
 
 pub returns-then-at-body : goal.returns-then-at-body

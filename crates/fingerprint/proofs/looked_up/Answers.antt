@@ -1,7 +1,5 @@
-use Rattle.std.proofs.Common.{arith}
 use Rattle.fingerprint.specs.Horner.{unpacked, looked_up}
 use Rattle.fingerprint.proofs.Packing.{unpacked_plus₃}
-use borrow.Author.Rules.{rules}
 use Rattle.fingerprint.proofs.looked_up.Goals as goal
 
 pub returns : goal.returns

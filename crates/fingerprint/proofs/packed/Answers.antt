@@ -1,7 +1,5 @@
-use Rattle.std.proofs.Common.{arith}
 use mathlib.Core.Path.{refl}
 use Rattle.fingerprint.specs.Horner.{packed}
-use borrow.Author.Rules.{rules}
 use Rattle.fingerprint.proofs.packed.Goals as goal
 
 pub returns : goal.returns

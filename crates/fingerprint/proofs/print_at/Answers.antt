@@ -2,7 +2,6 @@ use mathlib.Core.Path.{sym, ◌∙◌}
 use native.Mathlib.Omega.{arith}
 use Rattle.column.proofs.Seed.{column_path}
 use Rattle.fingerprint.proofs.Called.{print_some, print_none}
-use borrow.Author.Rules.{rules}
 use Rattle.fingerprint.proofs.print_at.Goals as goal
 
 pub returns-then-at-prints : goal.returns-then-at-prints

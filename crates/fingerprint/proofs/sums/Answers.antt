@@ -1,10 +1,5 @@
-use mathlib.Core.Path.{refl}
-use Prim.Native.Nat.{◌-◌, ◌≤◌}
 use native.Mathlib.Omega.{arith}
-use lib.ListN.{get_or}
-use Rattle.field.specs.Byte.{plus}
-use Rattle.code.proofs.Walks.{Listed, listed_none, listed_put, listed_all}
-use borrow.Author.Rules.{rules}
+use Rattle.code.proofs.Walks.{listed_all}
 use Rattle.fingerprint.proofs.sums.Goals as goal
 
 pub returns : goal.returns

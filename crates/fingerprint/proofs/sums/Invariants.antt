@@ -1,10 +1,7 @@
-use mathlib.Core.Path.{refl}
 use Prim.Native.Nat.{◌-◌, ◌≤◌}
-use native.Mathlib.Omega.{arith}
 use lib.ListN.{get_or}
 use Rattle.field.specs.Byte.{plus}
-use Rattle.code.proofs.Walks.{Listed, listed_none, listed_put, listed_all}
-use borrow.Author.Rules.{rules}
+use Rattle.code.proofs.Walks.{Listed}
 use Rattle.fingerprint.proofs.sums.Given as goal
 
 abbrev pub invariant-loop-k : goal.invariant-loop-k

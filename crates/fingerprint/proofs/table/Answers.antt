@@ -3,8 +3,7 @@ use native.Mathlib.Omega.{arith}
 use lib.ListN.{length}
 use Rattle.algebra.proofs.Several.{listed_length}
 use Rattle.fingerprint.proofs.Lookups.{row_of, row_sum, table_put}
-use Rattle.fingerprint.proofs.Parts.{room_two, room_three, three_put}
-use borrow.Author.Rules.{rules}
+use Rattle.fingerprint.proofs.Parts.{room_three, three_put}
 use Rattle.fingerprint.proofs.table.Goals as goal
 
 pub slice_bounds-out-end-3 : goal.slice_bounds-out-end-3

@@ -1,5 +1,5 @@
 use mathlib.Core.Path.{◌≡◌, ap, ◌∙◌}
-use Prim.Native.Nat.{◌+◌, ◌-◌, ◌/◌}
+use Prim.Native.Nat.{◌+◌, ◌/◌}
 use native.Mathlib.Omega.{arith}
 use lib.ListN.{length}
 use borrow.Author.Tests.{ltb-true, ltb-false}
@@ -8,7 +8,6 @@ use Rattle.record.specs.Heads.{check_head_of}
 use Rattle.gather.specs.Gather.{count_of}
 use Rattle.gather.proofs.Places.{some_stride}
 use Rattle.gather.proofs.Whole.{Read, starts, goes_on, ends_full, ends_last}
-use borrow.Author.Rules.{rules}
 use Rattle.gather.proofs.gather.Goals as goal
 
 pub nonzero_div-end : goal.nonzero_div-end

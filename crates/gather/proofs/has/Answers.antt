@@ -1,8 +1,5 @@
-use mathlib.Core.Path.{refl}
-use Prim.Native.Nat.{◌-◌, ◌≤◌}
 use native.Mathlib.Omega.{arith}
-use lib.ListN.{length}
-use Rattle.gather.proofs.Holding.{Ahead, found, not_yet, nowhere}
+use Rattle.gather.proofs.Holding.{found, not_yet, nowhere}
 use Rattle.gather.proofs.has.Goals as goal
 
 pub returns-then-indexes-k : goal.returns-then-indexes-k

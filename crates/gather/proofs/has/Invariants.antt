@@ -1,8 +1,6 @@
-use mathlib.Core.Path.{refl}
 use Prim.Native.Nat.{◌-◌, ◌≤◌}
-use native.Mathlib.Omega.{arith}
 use lib.ListN.{length}
-use Rattle.gather.proofs.Holding.{Ahead, found, not_yet, nowhere}
+use Rattle.gather.proofs.Holding.{Ahead}
 use Rattle.gather.proofs.has.Given as goal
 
 abbrev pub invariant-loop-k : goal.invariant-loop-k

@@ -1,12 +1,9 @@
 use mathlib.Core.Path.{refl, sym}
-use Prim.Native.Nat.{◌+◌, ◌*◌, ◌^◌, ◌<◌, ◌≤◌}
 use native.Mathlib.Omega.{arith}
-use lib.ListN.{length}
 use lib.Seq.{length-take-le}
 use Rattle.gather.proofs.Places.{m_fits, place_within, place_below}
 use Rattle.gather.proofs.Holding.{count_within}
 use Rattle.gather.proofs.Next.{next_refused, next_known, next_used}
-use borrow.Author.Rules.{rules}
 use Rattle.gather.proofs.step.Goals as goal
 
 pub overflow_mul-at : goal.overflow_mul-at

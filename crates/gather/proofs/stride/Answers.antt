@@ -1,6 +1,5 @@
 use native.Mathlib.Omega.{arith}
 use Rattle.gather.proofs.Places.{stride_fits, stride_is}
-use borrow.Author.Rules.{rules}
 use Rattle.gather.proofs.stride.Goals as goal
 
 pub overflow_add-result : goal.overflow_add-result

@@ -1,16 +1,14 @@
-use Rattle.std.proofs.Common.{arith}
 use mathlib.Core.Path.{◌≡◌, sym, ap, subst, ◌∙◌}
-use mathlib.Core.Bool.{Bool, true, false}
-use Prim.Native.Nat.{ℕ, suc, ◌≤◌}
+use mathlib.Core.Bool.{true}
+use Prim.Native.Nat.{ℕ, ◌≤◌}
 use lib.Dec.{eqb, ltb}
 use lib.ListN.{length, get_or}
-use borrow.Author.Rules.{rules}
-use borrow.Author.Tests.{not-true, not-false, eq-eqb, ne_eqb, lt-ltb, le-ltb}
+use borrow.Author.Tests.{eq-eqb, ne_eqb, lt-ltb, le-ltb}
 use Rattle.limits.specs.Limits.{longest_body}
 use Rattle.record.specs.declared.FragmentHead.{FragmentHead}
 use Rattle.record.specs.Heads.{check_shaped, fragment_shaped}
 use Rattle.inspect.specs.Answer.{refused_with}
-use Rattle.inspect.specs.Check.{hash_agrees, print_agrees, conditions, checked}
+use Rattle.inspect.specs.Check.{hash_agrees, print_agrees, conditions}
 use Rattle.inspect.proofs.Exact.{idle}
 use Rattle.inspect.proofs.Shaped.{size_fits, body_within, body_sized}
 use Rattle.inspect.proofs.Passing.{Passed, passes, stops, accepts, number_test, shape_test, found_test, index_test, body_test}
@@ -95,12 +93,15 @@ pub hash_agrees-requires : goal.hash_agrees-requires
 hash_agrees-requires c =
     let shaped : check_shaped c.args.check.now ≡ true = sym c.check_shaped.ensures ∙ c.if-not-check_shaped.false in
     let fragment-good : fragment_shaped c.read_check-c.result.version c.body_length-size.result c.args.fragment.now ≡ true = sym c.fragment_shaped.ensures ∙ c.if-not-fragment_shaped.false in
-    record { c_value = (c.read_check-c.ensures, shaped); index_lt_n = (
+    record {
+      c_value = (c.read_check-c.ensures, shaped);
+      index_lt_n = (
         c.if-f-c.false,
         subst (λ (k : ℕ). k ≤ longest_body)
             (sym c.body_length-size.ensures ∙ sym (body_sized _ _ _ (fragment-good) _ c.body_place-at.ensures))
             (size_fits _ (shaped) _ c.read_check-c.ensures),
-      ) }
+      );
+    }
 
 pub returns-then-not-hash_agrees : goal.returns-then-not-hash_agrees
 unfolding conditions

@@ -1,7 +1,6 @@
 use mathlib.Core.Path.{refl}
 use native.Mathlib.Omega.{arith}
 use Rattle.inspect.proofs.Opening.{Opens, opens, shuts}
-use borrow.Author.Rules.{rules}
 use Rattle.inspect.proofs.open.Goals as goal
 
 pub slice_bounds-result-count : goal.slice_bounds-result-count

@@ -1,10 +1,8 @@
 use mathlib.Core.Path.{ap, ◌∙◌}
-use native.Mathlib.Omega.{arith}
-use lib.ListN.{take, length-take}
+use lib.ListN.{take}
 use Rattle.code.proofs.Walks.{all_small}
 use Rattle.record.specs.declared.CheckHead.{CheckHead}
-use Rattle.join.proofs.Answers.{size_is, refused, passed, indexes_are, places_are, indexes_count, places_count, too_few, ready, rebuilt}
-use borrow.Author.Rules.{rules}
+use Rattle.join.proofs.Answers.{size_is, refused, passed, indexes_are, places_are, too_few, ready, rebuilt}
 use Rattle.join.proofs.join.Goals as goal
 
 pub returns-then-refused-ne0 : goal.returns-then-refused-ne0

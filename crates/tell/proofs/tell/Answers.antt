@@ -1,6 +1,4 @@
-use Rattle.std.proofs.Common.{arith}
 use Rattle.tell.proofs.Choice.{at_start}
-use borrow.Author.Rules.{rules}
 use Rattle.tell.proofs.tell.Goals as goal
 
 pub returns : goal.returns

@@ -4,7 +4,6 @@ use native.Mathlib.Omega.{arith}
 use lib.ListN.{length}
 use Rattle.tell.specs.Parts.{placed}
 use Rattle.tell.proofs.Choice.{printed_short, printed_long, printed_told}
-use borrow.Author.Rules.{rules}
 use Rattle.tell.proofs.tell_within.Goals as goal
 
 pub returns-then-input-lt-HEAD : goal.returns-then-input-lt-HEAD

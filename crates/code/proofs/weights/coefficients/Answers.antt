@@ -5,8 +5,7 @@ use native.Mathlib.Omega.{arith}
 use lib.ListN.{take, replicate}
 use Rattle.code.specs.Shares.{overlaid}
 use Rattle.code.proofs.AtOnce.{points_first, points_count, spread_all, shares_coefficients}
-use Rattle.code.proofs.Rooms.{lent, back, back_count, back_within}
-use borrow.Author.Rules.{rules}
+use Rattle.code.proofs.Rooms.{lent, back}
 use Rattle.code.proofs.weights.coefficients.Goals as goal
 
 pub returns : goal.returns

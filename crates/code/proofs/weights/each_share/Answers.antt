@@ -1,9 +1,7 @@
-use Prim.Native.Nat.{◌-◌, ◌≤◌}
 use native.Mathlib.Omega.{arith}
 use Rattle.code.specs.Shares.{shares}
 use Rattle.code.proofs.Shares.{shares_length, shares_at}
-use Rattle.code.proofs.Overlays.{Overlaying, none_over, one_over, all_over}
-use borrow.Author.Rules.{rules}
+use Rattle.code.proofs.Overlays.{one_over, all_over}
 use Rattle.code.proofs.weights.each_share.Goals as goal
 
 pub loop-k-preserved : goal.loop-k-preserved

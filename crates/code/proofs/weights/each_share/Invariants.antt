@@ -1,9 +1,6 @@
 use Prim.Native.Nat.{◌-◌, ◌≤◌}
-use native.Mathlib.Omega.{arith}
 use Rattle.code.specs.Shares.{shares}
-use Rattle.code.proofs.Shares.{shares_length, shares_at}
-use Rattle.code.proofs.Overlays.{Overlaying, none_over, one_over, all_over}
-use borrow.Author.Rules.{rules}
+use Rattle.code.proofs.Overlays.{Overlaying}
 use Rattle.code.proofs.weights.each_share.Given as goal
 
 abbrev pub invariant-loop-k : goal.invariant-loop-k

@@ -1,13 +1,12 @@
 use mathlib.Core.Path.{sym, ◌∙◌}
 use mathlib.Core.List.{map}
-use Prim.Native.Nat.{◌-◌, ◌<◌, ◌≤◌}
+use Prim.Native.Nat.{◌<◌}
 use native.Mathlib.Omega.{arith}
 use lib.ListN.{length, length-map}
 use Rattle.field.specs.Byte.{bytes}
 use Rattle.code.specs.Weights.{spread}
 use Rattle.code.proofs.Shares.{map_at}
-use Rattle.code.proofs.Overlays.{Overlaying, none_over, one_over, all_over}
-use borrow.Author.Rules.{rules}
+use Rattle.code.proofs.Overlays.{one_over, all_over}
 use Rattle.code.proofs.weights.each_spread.Goals as goal
 
 pub loop-k-preserved : goal.loop-k-preserved

@@ -1,13 +1,8 @@
-use mathlib.Core.Path.{sym, ◌∙◌}
 use mathlib.Core.List.{map}
-use Prim.Native.Nat.{◌-◌, ◌<◌, ◌≤◌}
-use native.Mathlib.Omega.{arith}
-use lib.ListN.{length, length-map}
+use Prim.Native.Nat.{◌-◌, ◌≤◌}
 use Rattle.field.specs.Byte.{bytes}
 use Rattle.code.specs.Weights.{spread}
-use Rattle.code.proofs.Shares.{map_at}
-use Rattle.code.proofs.Overlays.{Overlaying, none_over, one_over, all_over}
-use borrow.Author.Rules.{rules}
+use Rattle.code.proofs.Overlays.{Overlaying}
 use Rattle.code.proofs.weights.each_spread.Given as goal
 
 abbrev pub invariant-loop-k : goal.invariant-loop-k

@@ -1,6 +1,4 @@
-use Rattle.std.proofs.Common.{arith}
 use Rattle.code.proofs.Shares.{share_own, share_quotient}
-use borrow.Author.Rules.{rules}
 use Rattle.code.proofs.weights.share.Goals as goal
 
 pub returns-then-t-p : goal.returns-then-t-p

@@ -1,6 +1,4 @@
-use Rattle.std.proofs.Common.{arith}
 use mathlib.Core.Path.{sym}
-use borrow.Author.Rules.{rules}
 use Rattle.column.proofs.Seed.{large_seed, small_seed}
 use Rattle.column.proofs.Column.from_seed.Goals as goal
 

@@ -1,7 +1,5 @@
-use Rattle.std.proofs.Common.{arith}
 use Rattle.column.specs.Column.{scaled}
 use Rattle.column.proofs.Seed.{column_path}
-use borrow.Author.Rules.{rules}
 use Rattle.column.proofs.Column.scaled.Goals as goal
 
 pub returns : goal.returns

@@ -1,8 +1,6 @@
-use Rattle.std.proofs.Common.{arith}
 use mathlib.Core.Path.{refl}
 use Rattle.column.specs.Column.{shifted}
 use Rattle.column.proofs.Seed.{column_path}
-use borrow.Author.Rules.{rules}
 use Rattle.column.proofs.Column.shifted.Goals as goal
 
 pub returns : goal.returns

@@ -1,7 +1,5 @@
-use Rattle.std.proofs.Common.{arith}
 use mathlib.Core.Path.{ap, ap₂, ◌∙◌}
 use Rattle.column.specs.Column.{plus, scaled, shifted, times}
-use borrow.Author.Rules.{rules}
 use Rattle.column.proofs.Column.times.Goals as goal
 
 pub returns : goal.returns

@@ -1,10 +1,7 @@
 use mathlib.Core.Path.{refl, ap₂, ◌∙◌}
-use Prim.Native.Nat.{◌-◌}
 use native.Mathlib.Omega.{arith}
-use lib.ListN.{length}
 use Rattle.field.specs.Byte.{times}
-use Rattle.field.proofs.Added.{Adding, added_none, add_start, add_turn, add_end}
-use borrow.Author.Rules.{rules}
+use Rattle.field.proofs.Added.{added_none, add_turn, add_end}
 use borrow.Author.Tests.{ltb-true, ltb-false}
 use Rattle.field.proofs.adding.add_products.Goals as goal
 

@@ -1,8 +1,5 @@
 use native.Mathlib.Omega.{arith}
-use Rattle.field.proofs.Product.{times_lt}
-use Rattle.field.proofs.Power.{power_lt}
 use Rattle.field.proofs.Lookups.{look_multiple}
-use borrow.Author.Rules.{rules}
 use Rattle.field.proofs.adding.multiple.Goals as goal
 
 counted : goal.returns

@@ -1,6 +1,5 @@
 use native.Mathlib.Omega.{arith}
 use Rattle.field.proofs.Growth.{grown_zero, grown_none, grown_within, grown_over}
-use borrow.Author.Rules.{rules}
 use Rattle.field.proofs.many.grown.Goals as goal
 
 pub returns-then-product-eq255 : goal.returns-then-product-eq255

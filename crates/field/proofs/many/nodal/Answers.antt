@@ -1,11 +1,5 @@
-use mathlib.Core.Path.{◌≡◌, ◌∙◌}
-use Prim.Native.Nat.{◌≤◌}
 use native.Mathlib.Omega.{arith}
-use lib.ListN.{length, drop}
-use Rattle.algebra.specs.Polynomial.{nodal}
-use Rattle.field.specs.Byte.{at_place, bytes}
-use Rattle.field.proofs.Growth.{none_nodal, one_nodal, all_nodal}
-use borrow.Author.Rules.{rules}
+use Rattle.field.proofs.Growth.{none_nodal, one_nodal}
 use Rattle.field.proofs.many.nodal.Goals as goal
 
 pub loop-k-init : goal.loop-k-init

@@ -1,11 +1,8 @@
-use mathlib.Core.Path.{◌≡◌, ◌∙◌}
+use mathlib.Core.Path.{◌≡◌}
 use Prim.Native.Nat.{◌≤◌}
-use native.Mathlib.Omega.{arith}
 use lib.ListN.{length, drop}
 use Rattle.algebra.specs.Polynomial.{nodal}
 use Rattle.field.specs.Byte.{at_place, bytes}
-use Rattle.field.proofs.Growth.{none_nodal, one_nodal, all_nodal}
-use borrow.Author.Rules.{rules}
 use Rattle.field.proofs.many.nodal.Given as goal
 
 abbrev pub invariant-loop-k : goal.invariant-loop-k

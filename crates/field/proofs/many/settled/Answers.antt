@@ -1,7 +1,6 @@
 use mathlib.Core.Path.{sym}
 use native.Mathlib.Omega.{arith}
 use Rattle.field.proofs.Growth.{at_zero, look_place}
-use borrow.Author.Rules.{rules}
 use Rattle.field.proofs.many.settled.Goals as goal
 
 pub returns-then-product-eq255 : goal.returns-then-product-eq255

@@ -1,11 +1,5 @@
-use mathlib.Core.Path.{◌≡◌, ◌∙◌}
-use Prim.Native.Nat.{◌≤◌}
 use native.Mathlib.Omega.{arith}
-use lib.ListN.{length, drop}
-use Rattle.algebra.specs.Polynomial.{spread_but}
-use Rattle.field.specs.Byte.{at_place, bytes}
-use Rattle.field.proofs.Growth.{none_spread, multiplied, passed_over, all_spread}
-use borrow.Author.Rules.{rules}
+use Rattle.field.proofs.Growth.{none_spread, multiplied, passed_over}
 use Rattle.field.proofs.many.spread_but.Goals as goal
 
 pub loop-k-init : goal.loop-k-init

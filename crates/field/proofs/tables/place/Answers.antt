@@ -1,4 +1,3 @@
-use Rattle.std.proofs.Common.{arith}
 use Rattle.field.proofs.Places.{place_read}
 use borrow.Author.Rules.{rules}
 use Rattle.field.proofs.tables.place.Goals as goal

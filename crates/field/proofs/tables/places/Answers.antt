@@ -1,4 +1,3 @@
-use Rattle.std.proofs.Common.{arith}
 use Rattle.field.specs.Byte.{plus, xtime, product, times}
 use Rattle.field.proofs.Places.{powers, table, seek, seeks, places, places_rule}
 use Rattle.field.proofs.tables.places.Goals as goal

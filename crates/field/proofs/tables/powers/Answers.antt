@@ -1,4 +1,3 @@
-use Rattle.std.proofs.Common.{arith}
 use Rattle.field.specs.Byte.{plus, xtime, product, times}
 use Rattle.field.proofs.Power.{follows, tested}
 use Rattle.field.proofs.Test.{both}

@@ -3,7 +3,6 @@ use native.Mathlib.Omega.{arith}
 use lib.ListN.{length}
 use Rattle.inspect.proofs.Shaped.{hash_within}
 use Rattle.inspect.proofs.Agreeing.{hash_test}
-use borrow.Author.Rules.{rules}
 use Rattle.inspect.proofs.agree.hash_agrees.Goals as goal
 
 pub overflow_add-end : goal.overflow_add-end

@@ -4,7 +4,6 @@ use lib.ListN.{length}
 use Rattle.code.proofs.Walks.{all_small}
 use Rattle.inspect.proofs.Shaped.{prints_within}
 use Rattle.inspect.proofs.Agreeing.{print_test}
-use borrow.Author.Rules.{rules}
 use Rattle.inspect.proofs.agree.print_agrees.Goals as goal
 
 pub slice_bounds-called_for-count : goal.slice_bounds-called_for-count

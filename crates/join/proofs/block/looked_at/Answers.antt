@@ -1,11 +1,6 @@
-use mathlib.Core.Path.{◌≡◌}
-use mathlib.Core.Bool.{true, false}
-use Prim.Native.Nat.{◌≤◌}
+use mathlib.Core.Bool.{false}
 use native.Mathlib.Omega.{arith}
-use lib.ListN.{length, drop}
-use Rattle.join.specs.Join.{all_zero}
-use Rattle.join.proofs.Blocks.{fill_looked, zero_none, zero_more, zero_all, zero_not}
-use borrow.Author.Rules.{rules}
+use Rattle.join.proofs.Blocks.{fill_looked, zero_none, zero_more, zero_not}
 use Rattle.join.proofs.block.looked_at.Goals as goal
 
 pub loop-k-init : goal.loop-k-init

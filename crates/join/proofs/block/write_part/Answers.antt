@@ -1,21 +1,16 @@
-use mathlib.Core.Path.{refl}
-use Prim.Native.Nat.{◌+◌, ◌-◌, ◌*◌, ◌/◌, ◌%◌, ◌<◌, ◌≤◌}
+use Prim.Native.Nat.{◌+◌, ◌*◌, ◌/◌, ◌%◌, ◌<◌}
 use native.Mathlib.Omega.{arith}
 use lib.ListN.{length}
-use borrow.Rule.Slice.PartMut.{mid_len}
 use Rattle.code.proofs.Bodies.{row, place}
-use Rattle.code.proofs.Walks.{Listed, listed_none, listed_all}
-use Rattle.join.specs.Parts.{block_byte}
+use Rattle.code.proofs.Walks.{listed_all}
 use Rattle.join.proofs.Blocks.{run_more}
-use borrow.Author.Rules.{rules}
 use Rattle.join.proofs.block.write_part.Goals as goal
 
 pub loop-done-preserved : goal.loop-done-preserved
 loop-done-preserved c =
     let left : let q = c.args.first + c.loop-done.done in (q / c.args.size < length c.args.indexes.now) × (q % c.args.size < c.args.size) = let q = c.args.first + c.loop-done.done in
     let l : q < length c.args.indexes.now * c.args.size = omega (arith, c.requires.size_le_stride.1.0, c.loop-done.invariant.1.long) in
-    (row (length c.args.indexes.now) c.args.size q l, place (length c.args.indexes.now) c.args.size q l) in
-    (
+    (row (length c.args.indexes.now) c.args.size q l, place (length c.args.indexes.now) c.args.size q l) in (
       omega (arith, c.shorter.ensures, c.loop-done.invariant.1.long),
       run_more c.args.indexes.now c.args.places.now c.args.records.now c.args.stride c.args.size c.args.first _ c.loop-done.done c.shorter.result c.loop-done.out c.write_run.new.out
           (omega (arith, (left).1)) (omega (arith, c.shorter.ensures, (left).1)) (omega (arith, c.shorter.ensures, c.loop-done.invariant.1.long))

@@ -1,13 +1,7 @@
-use mathlib.Core.Path.{refl}
-use Prim.Native.Nat.{◌+◌, ◌-◌, ◌*◌, ◌/◌, ◌%◌, ◌<◌, ◌≤◌}
-use native.Mathlib.Omega.{arith}
+use Prim.Native.Nat.{◌+◌, ◌-◌, ◌≤◌}
 use lib.ListN.{length}
-use borrow.Rule.Slice.PartMut.{mid_len}
-use Rattle.code.proofs.Bodies.{row, place}
-use Rattle.code.proofs.Walks.{Listed, listed_none, listed_all}
+use Rattle.code.proofs.Walks.{Listed}
 use Rattle.join.specs.Parts.{block_byte}
-use Rattle.join.proofs.Blocks.{run_more}
-use borrow.Author.Rules.{rules}
 use Rattle.join.proofs.block.write_part.Given as goal
 
 abbrev pub invariant-loop-done : goal.invariant-loop-done

@@ -3,7 +3,7 @@ use native.Mathlib.Omega.{arith}
 use lib.ListN.{length, take, replicate}
 use Rattle.code.proofs.Walks.{all_small}
 use Rattle.join.proofs.Blocks.{weighed, mixed_run}
-use Rattle.join.proofs.Rooms.{lent, back, back_count, back_within}
+use Rattle.join.proofs.Rooms.{lent, back}
 use borrow.Author.Rules.{rules}
 use Rattle.join.proofs.block.write_run.Goals as goal
 

@@ -1,7 +1,6 @@
 use native.Mathlib.Omega.{arith}
 use Rattle.gather.proofs.Places.{some_stride}
 use Rattle.join.proofs.Tested.{lengths}
-use borrow.Author.Rules.{rules}
 use Rattle.join.proofs.refusal.lengths_fit.Goals as goal
 
 pub nonzero_rem-result : goal.nonzero_rem-result

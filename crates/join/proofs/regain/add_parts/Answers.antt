@@ -2,8 +2,7 @@ use mathlib.Core.Path.{refl}
 use Prim.Native.Nat.{◌+◌, ◌-◌, ◌*◌, ◌≤◌}
 use native.Mathlib.Omega.{arith}
 use lib.ListN.{length, get_or}
-use Rattle.join.proofs.Summing.{Summed, summed_none, summed_skip, summed_more, summed_all, within_at, part_long, part_at}
-use borrow.Author.Rules.{rules}
+use Rattle.join.proofs.Summing.{summed_none, summed_skip, summed_more, summed_all, within_at, part_long, part_at}
 use Rattle.join.proofs.regain.add_parts.Goals as goal
 
 pub loop-k-init : goal.loop-k-init

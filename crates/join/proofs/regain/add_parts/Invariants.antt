@@ -1,9 +1,6 @@
-use mathlib.Core.Path.{refl}
-use Prim.Native.Nat.{◌+◌, ◌-◌, ◌*◌, ◌≤◌}
-use native.Mathlib.Omega.{arith}
+use Prim.Native.Nat.{◌+◌, ◌*◌, ◌≤◌}
 use lib.ListN.{length, get_or}
-use Rattle.join.proofs.Summing.{Summed, summed_none, summed_skip, summed_more, summed_all, within_at, part_long, part_at}
-use borrow.Author.Rules.{rules}
+use Rattle.join.proofs.Summing.{Summed}
 use Rattle.join.proofs.regain.add_parts.Given as goal
 
 abbrev pub invariant-loop-k : goal.invariant-loop-k

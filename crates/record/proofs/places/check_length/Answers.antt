@@ -1,6 +1,5 @@
 use native.Mathlib.Omega.{arith}
 use Rattle.record.proofs.Head.{head_below}
-use borrow.Author.Rules.{rules}
 use Rattle.record.proofs.places.check_length.Goals as goal
 
 pub overflow_add-result : goal.overflow_add-result

@@ -1,4 +1,3 @@
-use Rattle.std.proofs.Common.{arith}
 use Rattle.record.specs.Layout.{head}
 use borrow.Author.Rules.{rules}
 use Rattle.record.proofs.places.head.Goals as goal

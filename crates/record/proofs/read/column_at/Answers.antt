@@ -1,7 +1,5 @@
-use Rattle.std.proofs.Common.{arith}
 use Rattle.column.proofs.Seed.{column_path}
 use Rattle.record.specs.Layout.{column_at}
-use borrow.Author.Rules.{rules}
 use Rattle.record.proofs.read.column_at.Goals as goal
 
 pub returns : goal.returns

@@ -1,8 +1,7 @@
-use Prim.Native.Nat.{◌≤◌, ◌-◌}
-use mathlib.Core.Path.{◌≡◌, ◌∙◌}
+use mathlib.Core.Path.{◌∙◌}
 use native.Mathlib.Omega.{arith}
 use Rattle.record.specs.Layout.{number_at}
-use Rattle.record.proofs.Numbers.{number_fits, number_more, number_all}
+use Rattle.record.proofs.Numbers.{number_fits, number_more}
 use borrow.Author.Rules.{rules}
 use Rattle.record.proofs.read.number_at.Goals as goal
 
@@ -24,8 +23,7 @@ overflow_add-n c =
     )
 
 pub loop-k-preserved : goal.loop-k-preserved
-loop-k-preserved c =
-    (
+loop-k-preserved c = (
   omega arith,
   number_more _ _ c.args.s.now _ _ c.loop-k.invariant.1 (c.wide.ensures ∙ c.byte_at.ensures),
 )

@@ -1,9 +1,6 @@
 use Prim.Native.Nat.{◌≤◌, ◌-◌}
-use mathlib.Core.Path.{◌≡◌, ◌∙◌}
-use native.Mathlib.Omega.{arith}
+use mathlib.Core.Path.{◌≡◌}
 use Rattle.record.specs.Layout.{number_at}
-use Rattle.record.proofs.Numbers.{number_fits, number_more, number_all}
-use borrow.Author.Rules.{rules}
 use Rattle.record.proofs.read.number_at.Given as goal
 
 abbrev pub invariant-loop-k : goal.invariant-loop-k

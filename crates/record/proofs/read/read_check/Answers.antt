@@ -2,7 +2,6 @@ use native.Mathlib.Omega.{arith}
 use Rattle.record.proofs.Head.{head_below}
 use Rattle.record.proofs.Numbers.{number_below}
 use Rattle.record.proofs.Fields.{check_fields}
-use borrow.Author.Rules.{rules}
 use Rattle.record.proofs.read.read_check.Goals as goal
 
 pub number_at-requires-2 : goal.number_at-requires-2

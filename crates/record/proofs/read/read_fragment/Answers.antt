@@ -3,7 +3,6 @@ use native.Mathlib.Omega.{arith}
 use Rattle.record.proofs.Head.{head_below}
 use Rattle.record.proofs.Numbers.{number_below}
 use Rattle.record.proofs.Fields.{fragment_fields}
-use borrow.Author.Rules.{rules}
 use Rattle.record.proofs.read.read_fragment.Goals as goal
 
 pub overflow_add-at : goal.overflow_add-at

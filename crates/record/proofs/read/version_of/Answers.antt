@@ -1,7 +1,6 @@
 use native.Mathlib.Omega.{arith}
 use Rattle.record.specs.Heads.{version_of}
 use Rattle.record.proofs.Numbers.{number_below}
-use borrow.Author.Rules.{rules}
 use Rattle.record.proofs.read.version_of.Goals as goal
 
 pub overflow_cast-result : goal.overflow_cast-result

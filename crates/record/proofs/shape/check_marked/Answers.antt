@@ -1,6 +1,4 @@
-use Rattle.std.proofs.Common.{arith}
 use Rattle.record.proofs.Tests.{check_marked_test}
-use borrow.Author.Rules.{rules}
 use Rattle.record.proofs.shape.check_marked.Goals as goal
 
 pub returns : goal.returns

@@ -1,4 +1,3 @@
-use Rattle.std.proofs.Common.{arith}
 use Rattle.record.specs.Heads.{counts_fit}
 use borrow.Author.Rules.{rules}
 use Rattle.record.proofs.shape.counts_fit.Goals as goal

@@ -1,6 +1,4 @@
-use Rattle.std.proofs.Common.{arith}
 use Rattle.record.proofs.Tests.{fragment_shaped_test}
-use borrow.Author.Rules.{rules}
 use Rattle.record.proofs.shape.fragment_shaped.Goals as goal
 
 pub returns : goal.returns

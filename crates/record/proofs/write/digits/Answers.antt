@@ -1,4 +1,3 @@
-use Rattle.std.proofs.Common.{arith}
 use Rattle.record.specs.Layout.{big}
 use borrow.Author.Rules.{rules}
 use Rattle.record.proofs.write.digits.Goals as goal

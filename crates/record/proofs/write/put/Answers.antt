@@ -1,23 +1,19 @@
-use Prim.Native.Nat.{◌≤◌, ◌-◌}
-use mathlib.Core.Path.{◌≡◌, refl, sym, ◌∙◌}
+use mathlib.Core.Path.{sym, ◌∙◌}
 use native.Mathlib.Omega.{arith}
-use lib.ListN.{length, length-set}
-use lib.Seq.{paste, paste-zero}
+use lib.ListN.{length-set}
 use Rattle.record.proofs.Buffer.{put_short, copy_more, copied}
-use borrow.Author.Rules.{rules}
 use Rattle.record.proofs.write.put.Goals as goal
 
 pub returns-then-out-bytes : goal.returns-then-out-bytes
 returns-then-out-bytes c = sym (put_short c.args.bytes.now c.args.out.now c.if-out-bytes.true)
 
 pub loop-k-preserved : goal.loop-k-preserved
-loop-k-preserved c =
-    (
-      omega arith,
-      c.loop-k.invariant.1,
-      length-set c.loop-k.out c.loop-k.k _ ∙ c.loop-k.invariant.2,
-      copy_more c.args.bytes.now c.args.out.now c.loop-k.out c.loop-k.k c.loop-k-test.true c.loop-k.invariant.1 c.loop-k.invariant.3,
-    )
+loop-k-preserved c = (
+  omega arith,
+  c.loop-k.invariant.1,
+  length-set c.loop-k.out c.loop-k.k _ ∙ c.loop-k.invariant.2,
+  copy_more c.args.bytes.now c.args.out.now c.loop-k.out c.loop-k.k c.loop-k-test.true c.loop-k.invariant.1 c.loop-k.invariant.3,
+)
 
 pub returns : goal.returns
 returns c =

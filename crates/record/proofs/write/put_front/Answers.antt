@@ -4,7 +4,6 @@ use Prim.Native.Nat.{ℕ}
 use native.Mathlib.Omega.{arith}
 use Rattle.record.specs.Put.{put}
 use Rattle.record.proofs.Front.{front_bytes}
-use borrow.Author.Rules.{rules}
 use Rattle.record.proofs.write.put_front.Goals as goal
 
 pub returns : goal.returns

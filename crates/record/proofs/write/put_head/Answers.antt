@@ -1,6 +1,5 @@
 use native.Mathlib.Omega.{arith}
 use Rattle.record.proofs.Front.{head_short, head_written}
-use borrow.Author.Rules.{rules}
 use Rattle.record.proofs.write.put_head.Goals as goal
 
 pub returns-then-out-at : goal.returns-then-out-at

@@ -1,7 +1,5 @@
-use Rattle.std.proofs.Common.{arith}
 use mathlib.Core.Path.{◌∙◌}
 use Rattle.record.proofs.Front.{check_bytes}
-use borrow.Author.Rules.{rules}
 use Rattle.record.proofs.write.write_check_head.Goals as goal
 
 pub returns : goal.returns

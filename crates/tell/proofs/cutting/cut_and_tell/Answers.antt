@@ -3,7 +3,6 @@ use native.Mathlib.Omega.{arith}
 use lib.ListN.{length, replicate}
 use lib.Seq.{length-take-le}
 use Rattle.tell.proofs.Room.{body_short, records_fit, records_are, check_short}
-use borrow.Author.Rules.{rules}
 use Rattle.tell.proofs.cutting.cut_and_tell.Goals as goal
 
 pub overflow_cast-size : goal.overflow_cast-size

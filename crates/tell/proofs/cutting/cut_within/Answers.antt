@@ -5,7 +5,6 @@ use lib.ListN.{length}
 use Rattle.cut.proofs.Refusals.{passed}
 use Rattle.tell.specs.Parts.{placed}
 use Rattle.tell.proofs.Choice.{refused_is, written, told_refused, told_shown}
-use borrow.Author.Rules.{rules}
 use Rattle.tell.proofs.cutting.cut_within.Goals as goal
 
 pub returns-then-refused-ne0 : goal.returns-then-refused-ne0

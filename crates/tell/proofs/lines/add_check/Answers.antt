@@ -1,4 +1,3 @@
-use Rattle.std.proofs.Common.{arith}
 use Rattle.tell.specs.Lines.{line, check_line}
 use borrow.Author.Rules.{rules}
 use Rattle.tell.proofs.lines.add_check.Goals as goal

@@ -1,6 +1,5 @@
 use native.Mathlib.Omega.{arith}
 use Rattle.tell.proofs.Hexadecimal.{low, high}
-use borrow.Author.Rules.{rules}
 use Rattle.tell.proofs.lines.digit.Goals as goal
 
 pub returns-then-d-lt10 : goal.returns-then-d-lt10

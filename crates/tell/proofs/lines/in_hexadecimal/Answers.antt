@@ -1,6 +1,4 @@
-use Rattle.std.proofs.Common.{arith}
 use Rattle.tell.proofs.Hexadecimal.{spelled}
-use borrow.Author.Rules.{rules}
 use Rattle.tell.proofs.lines.in_hexadecimal.Goals as goal
 
 pub returns : goal.returns

@@ -8,9 +8,8 @@ use lib.ListN.{length}
 use Rattle.record.specs.Layout.{written_version, record_length}
 use Rattle.tell.specs.Parts.{placed, head_line, fragment_lines, answer_line}
 use Rattle.tell.proofs.Adding.{grown_three}
-use Rattle.tell.proofs.Room.{body_short, before, records_are}
+use Rattle.tell.proofs.Room.{body_short}
 use Rattle.tell.proofs.Shown.{columns_whole, head_short, answer_short, lines_short, shown_is}
-use borrow.Author.Rules.{rules}
 use Rattle.tell.proofs.records.add_all.Goals as goal
 
 pub overflow_cast-size : goal.overflow_cast-size

@@ -1,12 +1,10 @@
-use mathlib.Core.Path.{sym, ap, ◌∙◌}
+use mathlib.Core.Path.{ap, ◌∙◌}
 use mathlib.Core.List.{List}
 use Prim.Native.Nat.{ℕ, ◌+◌}
 use native.Mathlib.Omega.{arith}
-use lib.ListN.{length, replicate}
-use lib.Seq.{length-take-le}
+use lib.ListN.{length}
 use Rattle.tell.specs.Parts.{placed}
 use Rattle.tell.proofs.Shown.{answer_is}
-use borrow.Author.Rules.{rules}
 use Rattle.tell.proofs.records.add_answer.Goals as goal
 
 pub returns : goal.returns

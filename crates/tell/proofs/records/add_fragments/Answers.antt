@@ -1,14 +1,5 @@
-use mathlib.Core.Path.{◌≡◌, ap, ◌∙◌}
-use mathlib.Core.List.{List}
-use Prim.Native.Nat.{ℕ, ◌+◌, ◌-◌, ◌≤◌}
 use native.Mathlib.Omega.{arith}
-use lib.ListN.{length}
-use Rattle.record.specs.Layout.{written_version, record_length}
-use Rattle.tell.specs.Parts.{placed, fragment_lines}
-use Rattle.tell.proofs.Adding.{Grown}
-use Rattle.cut.proofs.Filling.{within}
 use Rattle.tell.proofs.Shown.{lines_none, lines_next, lines_short}
-use borrow.Author.Rules.{rules}
 use Rattle.tell.proofs.records.add_fragments.Goals as goal
 
 pub loop-index-init : goal.loop-index-init
@@ -20,8 +11,7 @@ add_fragment-end-requires c =
     omega (arith, c.loop-index.invariant.1.long, c.loop-index.invariant.1.ends, lines_short c.args.size c.args.seed c.args.fragments.now c.loop-index.index, c.requires.n_in_bounds)
 
 pub loop-index-preserved : goal.loop-index-preserved
-loop-index-preserved c =
-    (
-      omega arith,
-      lines_next c.args.size c.args.seed c.args.fragments.now c.args.text.now c.args.at c.args.n c.loop-index.index c.print_among-print.result c.loop-index.text c.add_fragment-end.new.text c.loop-index.end c.add_fragment-end.result (omega arith) c.requires.n_in_bounds c.loop-index.invariant.1 c.print_among-print.ensures c.add_fragment-end.ensures.value c.add_fragment-end.ensures.text_after,
-    )
+loop-index-preserved c = (
+  omega arith,
+  lines_next c.args.size c.args.seed c.args.fragments.now c.args.text.now c.args.at c.args.n c.loop-index.index c.print_among-print.result c.loop-index.text c.add_fragment-end.new.text c.loop-index.end c.add_fragment-end.result (omega arith) c.requires.n_in_bounds c.loop-index.invariant.1 c.print_among-print.ensures c.add_fragment-end.ensures.value c.add_fragment-end.ensures.text_after,
+)

@@ -1,11 +1,9 @@
-use Rattle.std.proofs.Common.{arith}
 use mathlib.Core.Path.{ap, ◌∙◌}
 use mathlib.Core.List.{List}
 use Prim.Native.Nat.{ℕ, ◌+◌}
 use lib.ListN.{length}
 use Rattle.tell.specs.Parts.{placed}
 use Rattle.tell.proofs.Shown.{head_is}
-use borrow.Author.Rules.{rules}
 use Rattle.tell.proofs.records.add_head.Goals as goal
 
 pub returns : goal.returns

@@ -1,8 +1,4 @@
-use mathlib.Core.Path.{ap}
-use Prim.Native.Nat.{ℕ, ◌*◌}
-use native.Mathlib.Omega.{arith}
 use Rattle.tell.proofs.Shown.{print_is}
-use borrow.Author.Rules.{rules}
 use Rattle.tell.proofs.records.print_among.Goals as goal
 
 pub returns : goal.returns

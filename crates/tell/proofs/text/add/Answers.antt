@@ -1,7 +1,5 @@
-use Rattle.std.proofs.Common.{arith}
 use mathlib.Core.Path.{refl}
 use Rattle.tell.proofs.Adding.{put_placed}
-use borrow.Author.Rules.{rules}
 use Rattle.tell.proofs.text.add.Goals as goal
 
 pub returns : goal.returns

@@ -1,7 +1,6 @@
 use native.Mathlib.Omega.{arith}
 use Rattle.tell.proofs.Adding.{grown_three}
 use Rattle.tell.proofs.Decimals.{spelled, spelled_length}
-use borrow.Author.Rules.{rules}
 use Rattle.tell.proofs.text.add_line.Goals as goal
 
 pub add-requires : goal.add-requires

@@ -6,8 +6,7 @@ use lib.ListN.{length}
 use Rattle.tell.specs.Lines.{decimal}
 use Rattle.tell.specs.Parts.{placed}
 use Rattle.tell.proofs.Adding.{grown_one, grown_more}
-use Rattle.tell.proofs.Decimals.{few, decimal_is, decimal_short}
-use borrow.Author.Rules.{rules}
+use Rattle.tell.proofs.Decimals.{decimal_is, decimal_short}
 use Rattle.tell.proofs.text.add_number.Goals as goal
 
 pub returns : goal.returns

@@ -1,12 +1,5 @@
-use mathlib.Core.Path.{ap, ◌∙◌}
-use mathlib.Core.List.{List}
-use Prim.Native.Nat.{ℕ, ◌+◌, ◌-◌, ◌≤◌}
 use native.Mathlib.Omega.{arith}
-use lib.ListN.{length, take}
-use Rattle.tell.specs.Parts.{placed}
-use Rattle.tell.proofs.Adding.{Grown}
-use Rattle.tell.proofs.Decimals.{spelled, spelled_short, spelled_all, grown_start, grown_number}
-use borrow.Author.Rules.{rules}
+use Rattle.tell.proofs.Decimals.{spelled_short, grown_start, grown_number}
 use Rattle.tell.proofs.text.add_numbers.Goals as goal
 
 pub loop-k-init : goal.loop-k-init
@@ -18,8 +11,7 @@ add_number-end-requires c =
     omega (arith, c.loop-k.invariant.1.long, c.loop-k.invariant.1.ends, spelled_short c.loop-k.k c.args.numbers.now (omega arith), c.requires)
 
 pub loop-k-preserved : goal.loop-k-preserved
-loop-k-preserved c =
-    (
-      omega arith,
-      grown_number c.args.text.now c.args.at c.args.numbers.now c.loop-k.k c.loop-k.text c.add_number-end.new.text c.loop-k.end c.add_number-end.result (omega arith) c.requires c.loop-k.invariant.1 c.add_number-end.ensures.value c.add_number-end.ensures.text_after,
-    )
+loop-k-preserved c = (
+  omega arith,
+  grown_number c.args.text.now c.args.at c.args.numbers.now c.loop-k.k c.loop-k.text c.add_number-end.new.text c.loop-k.end c.add_number-end.result (omega arith) c.requires c.loop-k.invariant.1 c.add_number-end.ensures.value c.add_number-end.ensures.text_after,
+)

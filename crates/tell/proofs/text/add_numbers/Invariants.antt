@@ -1,12 +1,7 @@
-use mathlib.Core.Path.{ap, ◌∙◌}
-use mathlib.Core.List.{List}
-use Prim.Native.Nat.{ℕ, ◌+◌, ◌-◌, ◌≤◌}
-use native.Mathlib.Omega.{arith}
+use Prim.Native.Nat.{◌-◌, ◌≤◌}
 use lib.ListN.{length, take}
-use Rattle.tell.specs.Parts.{placed}
 use Rattle.tell.proofs.Adding.{Grown}
-use Rattle.tell.proofs.Decimals.{spelled, spelled_short, spelled_all, grown_start, grown_number}
-use borrow.Author.Rules.{rules}
+use Rattle.tell.proofs.Decimals.{spelled}
 use Rattle.tell.proofs.text.add_numbers.Given as goal
 
 abbrev pub invariant-loop-k : goal.invariant-loop-k
