@@ -1,6 +1,7 @@
 use Prim.Native.Nat.{◌≤◌}
 use native.Mathlib.Omega.{arith}
 use lib.ListN.{length}
+use Rattle.std.proofs.lemmas.Bool.Decides.{nat_tests}
 use Rattle.code.proofs.Walks.{all_small}
 use Rattle.inspect.proofs.Shaped.{prints_within}
 use Rattle.inspect.proofs.Agreeing.{print_test}
@@ -16,8 +17,8 @@ slice_bounds-called_for-start c = let within : c.prints_place-at.result ≤ leng
 
 pub returns : goal.returns
 returns c =
-    print_test c.args.check.now c.args.body.now c.args.c c.requires.0 c.args.index _ _ c.table-table.result _ _
+    let test = print_test c.args.check.now c.args.body.now c.args.c c.requires.0 c.args.index _ _ c.table-table.result _ _
     (omega (arith, c.well_formed.1.0))
     (all_small c.args.body.now (λ k. (c.type_inv.body k).fits))
     c.times.ensures c.table-table.ensures c.evaluated-found.ensures
-    c.prints_place-at.ensures c.called_for-called.ensures
+    c.prints_place-at.ensures c.called_for-called.ensures in grind (arith, nat_tests, test)
