@@ -1,6 +1,7 @@
 use mathlib.Core.Path.{◌≡◌, sym, ap, subst, ◌∙◌}
 use mathlib.Core.Bool.{true}
 use Prim.Native.Nat.{ℕ, ◌≤◌}
+use native.Mathlib.Omega.{arith}
 use lib.Dec.{eqb, ltb}
 use lib.ListN.{length, get_or}
 use borrow.Author.Tests.{eq-eqb, ne_eqb, lt-ltb, le-ltb}
@@ -30,7 +31,7 @@ returns-then-c-wanted c = let held-1 : (Passed c.args.wanted c.args.check.now c.
     let shaped : check_shaped c.args.check.now ≡ true = sym c.check_shaped.ensures ∙ c.if-not-check_shaped.false in
     let held-2 : (Passed c.args.wanted c.args.check.now c.args.fragment.now 2) = (passes c.args.wanted c.args.check.now c.args.fragment.now) 1 (held-1) (shaped) in
     let test-3 : ((get_or (conditions c.args.wanted c.args.check.now c.args.fragment.now) 2 idle).holds ≡ (eqb c.read_check-c.result.number c.args.wanted)) = number_test c.args.wanted c.args.check.now c.args.fragment.now _ c.read_check-c.ensures in
-    (stops c.args.wanted c.args.check.now c.args.fragment.now) 2 (held-2) (test-3 ∙ ne_eqb _ _ c.if-c-wanted.true)
+    (stops c.args.wanted c.args.check.now c.args.fragment.now) 2 (held-2) (test-3 ∙ ne_eqb _ _ (omega arith))
 
 pub returns-then-not-fragment_shaped : goal.returns-then-not-fragment_shaped
 unfolding conditions
@@ -38,7 +39,7 @@ returns-then-not-fragment_shaped c = let held-1 : (Passed c.args.wanted c.args.c
     let shaped : check_shaped c.args.check.now ≡ true = sym c.check_shaped.ensures ∙ c.if-not-check_shaped.false in
     let held-2 : (Passed c.args.wanted c.args.check.now c.args.fragment.now 2) = (passes c.args.wanted c.args.check.now c.args.fragment.now) 1 (held-1) (shaped) in
     let test-3 : ((get_or (conditions c.args.wanted c.args.check.now c.args.fragment.now) 2 idle).holds ≡ (eqb c.read_check-c.result.number c.args.wanted)) = number_test c.args.wanted c.args.check.now c.args.fragment.now _ c.read_check-c.ensures in
-    let held-3 : (Passed c.args.wanted c.args.check.now c.args.fragment.now 3) = (passes c.args.wanted c.args.check.now c.args.fragment.now) 2 (held-2) (test-3 ∙ eq-eqb _ _ c.if-c-wanted.false) in
+    let held-3 : (Passed c.args.wanted c.args.check.now c.args.fragment.now 3) = (passes c.args.wanted c.args.check.now c.args.fragment.now) 2 (held-2) (test-3 ∙ eq-eqb _ _ (omega arith)) in
     let test-4 : ((get_or (conditions c.args.wanted c.args.check.now c.args.fragment.now) 3 idle).holds ≡ c.fragment_shaped.result) = shape_test c.args.wanted c.args.check.now c.args.fragment.now _ c.read_check-c.ensures _
     c.body_length-size.ensures
     ∙ sym c.fragment_shaped.ensures in
@@ -51,7 +52,7 @@ returns-then-f-wanted c =
     let shaped : check_shaped c.args.check.now ≡ true = sym c.check_shaped.ensures ∙ c.if-not-check_shaped.false in
     let held-2 : (Passed c.args.wanted c.args.check.now c.args.fragment.now 2) = (passes c.args.wanted c.args.check.now c.args.fragment.now) 1 (held-1) (shaped) in
     let test-3 : ((get_or (conditions c.args.wanted c.args.check.now c.args.fragment.now) 2 idle).holds ≡ (eqb c.read_check-c.result.number c.args.wanted)) = number_test c.args.wanted c.args.check.now c.args.fragment.now _ c.read_check-c.ensures in
-    let held-3 : (Passed c.args.wanted c.args.check.now c.args.fragment.now 3) = (passes c.args.wanted c.args.check.now c.args.fragment.now) 2 (held-2) (test-3 ∙ eq-eqb _ _ c.if-c-wanted.false) in
+    let held-3 : (Passed c.args.wanted c.args.check.now c.args.fragment.now 3) = (passes c.args.wanted c.args.check.now c.args.fragment.now) 2 (held-2) (test-3 ∙ eq-eqb _ _ (omega arith)) in
     let test-4 : ((get_or (conditions c.args.wanted c.args.check.now c.args.fragment.now) 3 idle).holds ≡ c.fragment_shaped.result) = shape_test c.args.wanted c.args.check.now c.args.fragment.now _ c.read_check-c.ensures _
     c.body_length-size.ensures
     ∙ sym c.fragment_shaped.ensures in
@@ -59,7 +60,7 @@ returns-then-f-wanted c =
     let test-5 : ((get_or (conditions c.args.wanted c.args.check.now c.args.fragment.now) 4 idle).holds ≡ (eqb c.read_fragment-f.result.number c.args.wanted)) = found_test c.args.wanted c.args.check.now c.args.fragment.now _ c.read_check-c.ensures _
     c.read_fragment-f.ensures in
     ap (λ (f : FragmentHead). refused_with 9 f.number) c.read_fragment-f.ensures
-    ∙ (stops c.args.wanted c.args.check.now c.args.fragment.now) 4 (held-4) (test-5 ∙ ne_eqb _ _ c.if-f-wanted.true)
+    ∙ (stops c.args.wanted c.args.check.now c.args.fragment.now) 4 (held-4) (test-5 ∙ ne_eqb _ _ (omega arith))
 
 pub returns-then-f-c : goal.returns-then-f-c
 unfolding conditions
@@ -67,14 +68,14 @@ returns-then-f-c c = let held-1 : (Passed c.args.wanted c.args.check.now c.args.
     let shaped : check_shaped c.args.check.now ≡ true = sym c.check_shaped.ensures ∙ c.if-not-check_shaped.false in
     let held-2 : (Passed c.args.wanted c.args.check.now c.args.fragment.now 2) = (passes c.args.wanted c.args.check.now c.args.fragment.now) 1 (held-1) (shaped) in
     let test-3 : ((get_or (conditions c.args.wanted c.args.check.now c.args.fragment.now) 2 idle).holds ≡ (eqb c.read_check-c.result.number c.args.wanted)) = number_test c.args.wanted c.args.check.now c.args.fragment.now _ c.read_check-c.ensures in
-    let held-3 : (Passed c.args.wanted c.args.check.now c.args.fragment.now 3) = (passes c.args.wanted c.args.check.now c.args.fragment.now) 2 (held-2) (test-3 ∙ eq-eqb _ _ c.if-c-wanted.false) in
+    let held-3 : (Passed c.args.wanted c.args.check.now c.args.fragment.now 3) = (passes c.args.wanted c.args.check.now c.args.fragment.now) 2 (held-2) (test-3 ∙ eq-eqb _ _ (omega arith)) in
     let test-4 : ((get_or (conditions c.args.wanted c.args.check.now c.args.fragment.now) 3 idle).holds ≡ c.fragment_shaped.result) = shape_test c.args.wanted c.args.check.now c.args.fragment.now _ c.read_check-c.ensures _
     c.body_length-size.ensures
     ∙ sym c.fragment_shaped.ensures in
     let held-4 : (Passed c.args.wanted c.args.check.now c.args.fragment.now 4) = (passes c.args.wanted c.args.check.now c.args.fragment.now) 3 (held-3) (test-4 ∙ c.if-not-fragment_shaped.false) in
     let test-5 : ((get_or (conditions c.args.wanted c.args.check.now c.args.fragment.now) 4 idle).holds ≡ (eqb c.read_fragment-f.result.number c.args.wanted)) = found_test c.args.wanted c.args.check.now c.args.fragment.now _ c.read_check-c.ensures _
     c.read_fragment-f.ensures in
-    let held-5 : (Passed c.args.wanted c.args.check.now c.args.fragment.now 5) = (passes c.args.wanted c.args.check.now c.args.fragment.now) 4 (held-4) (test-5 ∙ eq-eqb _ _ c.if-f-wanted.false) in
+    let held-5 : (Passed c.args.wanted c.args.check.now c.args.fragment.now 5) = (passes c.args.wanted c.args.check.now c.args.fragment.now) 4 (held-4) (test-5 ∙ eq-eqb _ _ (omega arith)) in
     let test-6 : ((get_or (conditions c.args.wanted c.args.check.now c.args.fragment.now) 5 idle).holds ≡ (ltb c.read_fragment-f.result.index c.read_check-c.result.n)) = index_test c.args.wanted c.args.check.now c.args.fragment.now _ c.read_check-c.ensures _
     c.read_fragment-f.ensures in
     (stops c.args.wanted c.args.check.now c.args.fragment.now) 5 (held-5) (test-6 ∙ le-ltb _ _ c.if-f-c.true)
@@ -109,14 +110,14 @@ returns-then-not-hash_agrees c = let held-1 : (Passed c.args.wanted c.args.check
     let shaped : check_shaped c.args.check.now ≡ true = sym c.check_shaped.ensures ∙ c.if-not-check_shaped.false in
     let held-2 : (Passed c.args.wanted c.args.check.now c.args.fragment.now 2) = (passes c.args.wanted c.args.check.now c.args.fragment.now) 1 (held-1) (shaped) in
     let test-3 : ((get_or (conditions c.args.wanted c.args.check.now c.args.fragment.now) 2 idle).holds ≡ (eqb c.read_check-c.result.number c.args.wanted)) = number_test c.args.wanted c.args.check.now c.args.fragment.now _ c.read_check-c.ensures in
-    let held-3 : (Passed c.args.wanted c.args.check.now c.args.fragment.now 3) = (passes c.args.wanted c.args.check.now c.args.fragment.now) 2 (held-2) (test-3 ∙ eq-eqb _ _ c.if-c-wanted.false) in
+    let held-3 : (Passed c.args.wanted c.args.check.now c.args.fragment.now 3) = (passes c.args.wanted c.args.check.now c.args.fragment.now) 2 (held-2) (test-3 ∙ eq-eqb _ _ (omega arith)) in
     let test-4 : ((get_or (conditions c.args.wanted c.args.check.now c.args.fragment.now) 3 idle).holds ≡ c.fragment_shaped.result) = shape_test c.args.wanted c.args.check.now c.args.fragment.now _ c.read_check-c.ensures _
     c.body_length-size.ensures
     ∙ sym c.fragment_shaped.ensures in
     let held-4 : (Passed c.args.wanted c.args.check.now c.args.fragment.now 4) = (passes c.args.wanted c.args.check.now c.args.fragment.now) 3 (held-3) (test-4 ∙ c.if-not-fragment_shaped.false) in
     let test-5 : ((get_or (conditions c.args.wanted c.args.check.now c.args.fragment.now) 4 idle).holds ≡ (eqb c.read_fragment-f.result.number c.args.wanted)) = found_test c.args.wanted c.args.check.now c.args.fragment.now _ c.read_check-c.ensures _
     c.read_fragment-f.ensures in
-    let held-5 : (Passed c.args.wanted c.args.check.now c.args.fragment.now 5) = (passes c.args.wanted c.args.check.now c.args.fragment.now) 4 (held-4) (test-5 ∙ eq-eqb _ _ c.if-f-wanted.false) in
+    let held-5 : (Passed c.args.wanted c.args.check.now c.args.fragment.now 5) = (passes c.args.wanted c.args.check.now c.args.fragment.now) 4 (held-4) (test-5 ∙ eq-eqb _ _ (omega arith)) in
     let test-6 : ((get_or (conditions c.args.wanted c.args.check.now c.args.fragment.now) 5 idle).holds ≡ (ltb c.read_fragment-f.result.index c.read_check-c.result.n)) = index_test c.args.wanted c.args.check.now c.args.fragment.now _ c.read_check-c.ensures _
     c.read_fragment-f.ensures in
     let held-6 : (Passed c.args.wanted c.args.check.now c.args.fragment.now 6) = (passes c.args.wanted c.args.check.now c.args.fragment.now) 5 (held-5) (test-6 ∙ lt-ltb _ _ c.if-f-c.false) in
@@ -131,14 +132,14 @@ returns-then-not-print_agrees c = let held-1 : (Passed c.args.wanted c.args.chec
     let shaped : check_shaped c.args.check.now ≡ true = sym c.check_shaped.ensures ∙ c.if-not-check_shaped.false in
     let held-2 : (Passed c.args.wanted c.args.check.now c.args.fragment.now 2) = (passes c.args.wanted c.args.check.now c.args.fragment.now) 1 (held-1) (shaped) in
     let test-3 : ((get_or (conditions c.args.wanted c.args.check.now c.args.fragment.now) 2 idle).holds ≡ (eqb c.read_check-c.result.number c.args.wanted)) = number_test c.args.wanted c.args.check.now c.args.fragment.now _ c.read_check-c.ensures in
-    let held-3 : (Passed c.args.wanted c.args.check.now c.args.fragment.now 3) = (passes c.args.wanted c.args.check.now c.args.fragment.now) 2 (held-2) (test-3 ∙ eq-eqb _ _ c.if-c-wanted.false) in
+    let held-3 : (Passed c.args.wanted c.args.check.now c.args.fragment.now 3) = (passes c.args.wanted c.args.check.now c.args.fragment.now) 2 (held-2) (test-3 ∙ eq-eqb _ _ (omega arith)) in
     let test-4 : ((get_or (conditions c.args.wanted c.args.check.now c.args.fragment.now) 3 idle).holds ≡ c.fragment_shaped.result) = shape_test c.args.wanted c.args.check.now c.args.fragment.now _ c.read_check-c.ensures _
     c.body_length-size.ensures
     ∙ sym c.fragment_shaped.ensures in
     let held-4 : (Passed c.args.wanted c.args.check.now c.args.fragment.now 4) = (passes c.args.wanted c.args.check.now c.args.fragment.now) 3 (held-3) (test-4 ∙ c.if-not-fragment_shaped.false) in
     let test-5 : ((get_or (conditions c.args.wanted c.args.check.now c.args.fragment.now) 4 idle).holds ≡ (eqb c.read_fragment-f.result.number c.args.wanted)) = found_test c.args.wanted c.args.check.now c.args.fragment.now _ c.read_check-c.ensures _
     c.read_fragment-f.ensures in
-    let held-5 : (Passed c.args.wanted c.args.check.now c.args.fragment.now 5) = (passes c.args.wanted c.args.check.now c.args.fragment.now) 4 (held-4) (test-5 ∙ eq-eqb _ _ c.if-f-wanted.false) in
+    let held-5 : (Passed c.args.wanted c.args.check.now c.args.fragment.now 5) = (passes c.args.wanted c.args.check.now c.args.fragment.now) 4 (held-4) (test-5 ∙ eq-eqb _ _ (omega arith)) in
     let test-6 : ((get_or (conditions c.args.wanted c.args.check.now c.args.fragment.now) 5 idle).holds ≡ (ltb c.read_fragment-f.result.index c.read_check-c.result.n)) = index_test c.args.wanted c.args.check.now c.args.fragment.now _ c.read_check-c.ensures _
     c.read_fragment-f.ensures in
     let held-6 : (Passed c.args.wanted c.args.check.now c.args.fragment.now 6) = (passes c.args.wanted c.args.check.now c.args.fragment.now) 5 (held-5) (test-6 ∙ lt-ltb _ _ c.if-f-c.false) in
@@ -158,14 +159,14 @@ returns c =
     let shaped : check_shaped c.args.check.now ≡ true = sym c.check_shaped.ensures ∙ c.if-not-check_shaped.false in
     let held-2 : (Passed c.args.wanted c.args.check.now c.args.fragment.now 2) = (passes c.args.wanted c.args.check.now c.args.fragment.now) 1 (held-1) (shaped) in
     let test-3 : ((get_or (conditions c.args.wanted c.args.check.now c.args.fragment.now) 2 idle).holds ≡ (eqb c.read_check-c.result.number c.args.wanted)) = number_test c.args.wanted c.args.check.now c.args.fragment.now _ c.read_check-c.ensures in
-    let held-3 : (Passed c.args.wanted c.args.check.now c.args.fragment.now 3) = (passes c.args.wanted c.args.check.now c.args.fragment.now) 2 (held-2) (test-3 ∙ eq-eqb _ _ c.if-c-wanted.false) in
+    let held-3 : (Passed c.args.wanted c.args.check.now c.args.fragment.now 3) = (passes c.args.wanted c.args.check.now c.args.fragment.now) 2 (held-2) (test-3 ∙ eq-eqb _ _ (omega arith)) in
     let test-4 : ((get_or (conditions c.args.wanted c.args.check.now c.args.fragment.now) 3 idle).holds ≡ c.fragment_shaped.result) = shape_test c.args.wanted c.args.check.now c.args.fragment.now _ c.read_check-c.ensures _
     c.body_length-size.ensures
     ∙ sym c.fragment_shaped.ensures in
     let held-4 : (Passed c.args.wanted c.args.check.now c.args.fragment.now 4) = (passes c.args.wanted c.args.check.now c.args.fragment.now) 3 (held-3) (test-4 ∙ c.if-not-fragment_shaped.false) in
     let test-5 : ((get_or (conditions c.args.wanted c.args.check.now c.args.fragment.now) 4 idle).holds ≡ (eqb c.read_fragment-f.result.number c.args.wanted)) = found_test c.args.wanted c.args.check.now c.args.fragment.now _ c.read_check-c.ensures _
     c.read_fragment-f.ensures in
-    let held-5 : (Passed c.args.wanted c.args.check.now c.args.fragment.now 5) = (passes c.args.wanted c.args.check.now c.args.fragment.now) 4 (held-4) (test-5 ∙ eq-eqb _ _ c.if-f-wanted.false) in
+    let held-5 : (Passed c.args.wanted c.args.check.now c.args.fragment.now 5) = (passes c.args.wanted c.args.check.now c.args.fragment.now) 4 (held-4) (test-5 ∙ eq-eqb _ _ (omega arith)) in
     let test-6 : ((get_or (conditions c.args.wanted c.args.check.now c.args.fragment.now) 5 idle).holds ≡ (ltb c.read_fragment-f.result.index c.read_check-c.result.n)) = index_test c.args.wanted c.args.check.now c.args.fragment.now _ c.read_check-c.ensures _
     c.read_fragment-f.ensures in
     let held-6 : (Passed c.args.wanted c.args.check.now c.args.fragment.now 6) = (passes c.args.wanted c.args.check.now c.args.fragment.now) 5 (held-5) (test-6 ∙ lt-ltb _ _ c.if-f-c.false) in
