@@ -1,4 +1,4 @@
-use mathlib.Core.Path.{refl, sym}
+use mathlib.Core.Path.{sym}
 use native.Mathlib.Omega.{arith}
 use lib.Seq.{length-take-le}
 use Rattle.gather.proofs.Places.{m_fits, place_within, place_below}
@@ -21,7 +21,7 @@ pass-requires c = (omega (arith, place_below c.args.check.now c.args.records.now
 pub returns-in_default : goal.returns-in_default
 returns-in_default c =
     next_refused c.args.wanted c.args.check.now c.args.records.now c.args.held c.requires.before
-    _ _ _ c.stride-size.ensures refl refl _ c.check.ensures _ _ c.in_default.is c.pass.ensures
+    _ _ _ c.stride-size.ensures (omega arith) (omega arith) _ c.check.ensures _ _ c.in_default.is c.pass.ensures
 
 pub slice_bounds-indexes-end : goal.slice_bounds-indexes-end
 slice_bounds-indexes-end c =
@@ -37,7 +37,7 @@ pass-requires-then-has c = (omega (arith, place_below c.args.check.now c.args.re
 pub returns-then-has : goal.returns-then-has
 returns-then-has c =
     next_known c.args.wanted c.args.check.now c.args.records.now c.args.held c.requires.before
-    _ _ _ c.stride-size.ensures refl refl _ c.check.ensures _
+    _ _ _ c.stride-size.ensures (omega arith) (omega arith) _ c.check.ensures _
     _ c.in-Accepted.is _ c.has.ensures c.if-has.true c.pass-then-has.ensures
 
 pub take-requires : goal.take-requires
@@ -47,5 +47,5 @@ take-requires c =
 pub returns : goal.returns
 returns c =
     next_used c.args.wanted c.args.check.now c.args.records.now c.args.held c.requires.before
-    _ _ _ c.stride-size.ensures refl refl _ c.check.ensures _
+    _ _ _ c.stride-size.ensures (omega arith) (omega arith) _ c.check.ensures _
     _ c.in-Accepted.is _ c.has.ensures c.if-has.false c.requires.more.1 ((omega (arith, m_fits c.args.check.now (λ i. omega (arith, c.type_inv.check i)), c.requires.more.1))) c.take.ensures
