@@ -4,7 +4,9 @@ use mathlib.Core.Bool.{Bool, ◌&&◌, cond}
 use mathlib.Core.List.{List, ◌++◌}
 use Prim.Native.Nat.{ℕ, ◌+◌, ◌-◌, ◌*◌, ◌^◌, ◌<◌, ◌≤◌}
 use native.Mathlib.Nat.{zero-add}
-use borrow.Author.Tests.{lt-ltb, le-ltb, eq-eqb, ne_eqb}
+use native.Mathlib.Omega.{arith}
+use Rattle.std.proofs.lemmas.Bool.Decides.{nat_tests}
+use borrow.Author.Tests.{lt-ltb, eq-eqb, ne_eqb}
 use borrow.Rule.Slice.PartMut.{mid_of}
 use lib.Dec.{eqb, leb, lit<}
 use lib.ListN.{length, drop, get_or, length-replicate}
@@ -83,7 +85,7 @@ printed_short input h = sym (simp (lt-ltb (length input) 13 h))
 
 pub printed_long : (input : List ℕ) → 13 ≤ length input → 525 < length input → refusal_line 2 ≡ printed input
 unfolding printed
-printed_long input some h = sym (simp (le-ltb (length input) 13 some, lt-ltb 525 (length input) h))
+printed_long input some h = grind (arith, nat_tests)
 
 pub printed_told : (input : List ℕ) (seed number : ℕ) → 13 ≤ length input → length input ≤ 525
     → seed ≡ get_or input 2 0 + 256 * get_or input 3 0 + 65536 * get_or input 4 0 → number ≡ number_at 8 5 input
@@ -91,7 +93,7 @@ pub printed_told : (input : List ℕ) (seed number : ℕ) → 13 ≤ length inpu
 unfolding printed
 printed_told input seed number some h es en =
     (λ i. told (get_or input 0 0) (get_or input 1 0) (es i) (en i) (rest_lent input 13 i))
-    ∙ sym (simp (le-ltb (length input) 13 some, le-ltb 525 (length input) h))
+    ∙ grind (arith, nat_tests)
 
 -- bytes placed at a text's start
 pub at_start : (text bytes next : List ℕ) (end : ℕ) → end ≡ length bytes → next ≡ placed text 0 bytes → next ≡ bytes ++ drop end text

@@ -3,7 +3,7 @@ use Rattle.tell.proofs.Hexadecimal.{low, high}
 use Rattle.tell.proofs.lines.digit.Goals as goal
 
 pub returns-then-d-lt10 : goal.returns-then-d-lt10
-returns-then-d-lt10 c = low c.args.d c.if-d-lt10.true
+returns-then-d-lt10 c = omega (arith, low c.args.d c.if-d-lt10.true)
 
 pub returns-else-d-lt10 : goal.returns-else-d-lt10
-returns-else-d-lt10 c = high c.args.d (omega arith)
+returns-else-d-lt10 c = omega (arith, high c.args.d (omega arith))
