@@ -11,4 +11,4 @@ returns-then-b-eq0 c = none_right _ _ c.if-b-eq0.true
 pub returns : goal.returns
 returns c =
     look_times _ c.powers-table.ensures _ _ _ _ (omega arith)
-    (c.place.ensures.1 c.if-a-eq0.false) (c.place-2.ensures.1 c.if-b-eq0.false)
+    (c.place.ensures.1 (omega arith)) (c.place-2.ensures.1 (omega arith))

@@ -1,9 +1,10 @@
 use native.Mathlib.Omega.{arith}
+use Rattle.std.proofs.lemmas.Bool.Decides.{nat_tests}
 use Rattle.field.proofs.Lookups.{look_multiple}
 use Rattle.field.proofs.adding.multiple.Goals as goal
 
 counted : goal.returns
-counted c = look_multiple _ c.requires.powers _ _ _ (omega arith) c.place.ensures.1
+counted c = let read = look_multiple _ c.requires.powers c.args.factor c.args.at c.place.result (omega arith) c.place.ensures.1 in grind (arith, nat_tests, read)
 
 pub returns : goal.returns
 returns c = counted c
