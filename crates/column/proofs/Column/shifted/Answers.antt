@@ -1,8 +1,8 @@
-use mathlib.Core.Path.{refl}
 use Rattle.column.specs.Column.{shifted}
-use Rattle.column.proofs.Seed.{column_path}
+use native.Mathlib.Omega.{arith}
+use Rattle.field.proofs.Sum.{plus_comm}
 use Rattle.column.proofs.Column.shifted.Goals as goal
 
 pub returns : goal.returns
 unfolding shifted
-returns c = column_path _ _ refl c.plus.ensures refl
+returns c = grind (arith, plus_comm)
