@@ -1,7 +1,7 @@
 /*
  * Cuts a block for twelve heads, checks one fragment, loses four, and joins the block from the other eight.
  *
- * At the top of the repository, after `rt staticlib abi`:
+ * At the top of the repository, after `host/archive`:
  *
  *     cc -std=c11 -Wall -Wextra -Werror -Iinclude examples/c/cut_and_join.c target/staticlib/libabi.a -o target/cut_and_join
  *     target/cut_and_join

@@ -1,7 +1,7 @@
 //! Ruwekiha for Rust: cut a block into n fragment records and a check record so that any m of the records give it back, check one
 //! record by itself, join the block.
 //!
-//! The functions are the proved ones of the archive that `rt staticlib abi` writes. No call asks anything of its caller: whatever
+//! The functions are the proved ones of the archive that `host/archive` writes. No call asks anything of its caller: whatever
 //! the bytes and numbers are, an answer comes back, and on a refusal each lent buffer holds what it held. [`raw`] gives the same
 //! answers as document 01's plain numbers; [`second`] is another implementation, to hold them against.
 //!

@@ -53,7 +53,7 @@ fn printed(parts: &[&[u8]]) -> String {
         .stdin(Stdio::piped())
         .stdout(Stdio::piped())
         .spawn()
-        .unwrap_or_else(|e| panic!("{PROGRAM}: {e}; `rt check ball` proves and builds it"));
+        .unwrap_or_else(|e| panic!("{PROGRAM}: {e}; `host/archive` proves and builds it"));
     let mut stdin = child.stdin.take().unwrap();
     for (k, part) in parts.iter().enumerate() {
         if k > 0 {

@@ -1,13 +1,31 @@
 // The program: reads m, n, a seed column, a block number and a block, and prints what `tell` makes of them.
 #![tactic(auto)]
 
-use libc::{STDIN_FILENO, STDOUT_FILENO};
+ghost use Rattle.std.specs.Prelude.{◌≤◌, length};
+
+use std::io::{Read, Write};
 
 // One byte more than an input may have shows that there are too many.
-fn main() {
+fn main(rt: HostRuntime) {
     let mut input = [0u8; 526];
-    let count = io::read_full(STDIN_FILENO, &mut input);
+    let count = read_full(&rt, &mut input);
     let mut text = [0u8; 16384];
     let length = tell::tell(&input[..count], &mut text);
-    io::write_all(STDOUT_FILENO, &text[..length]);
+    let _ = rt.stdout().write_all(&text[..length]);
+}
+
+// Reads until `input` is full, standard input ends or a read fails, and answers how many bytes were read.
+fn read_full(rt: &HostRuntime, input: &mut [u8]) -> usize
+    ensures { result ≤ length input.new }
+{
+    let mut stdin = rt.stdin();
+    let mut done = 0;
+    while done < input.len() {
+        let n = stdin.read(&mut input[done..]).unwrap_or(0);
+        if n == 0 {
+            break;
+        }
+        done += n;
+    }
+    done
 }

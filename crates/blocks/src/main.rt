@@ -7,7 +7,10 @@ mod joining;
 mod line;
 mod setting;
 
-fn main() {
-    cutting::run();
-    joining::run();
+use std::io;
+
+fn main(rt: HostRuntime) -> io::Result<()> {
+    cutting::run(&rt)?;
+    joining::run(&rt)?;
+    Ok(())
 }

@@ -1,27 +1,28 @@
 // A line of output, part by part.
 use column::Column;
-use libc::STDOUT_FILENO;
+use std::io;
 
-pub(crate) fn text(words: &[u8]) {
-    io::write_all(STDOUT_FILENO, words);
+pub(crate) fn text(rt: &HostRuntime, words: &str) -> io::Result<()> {
+    print!(rt; "{words}")
 }
 
-pub(crate) fn number(n: u64) {
-    text(b" ");
-    io::print_decimal(STDOUT_FILENO, n);
+pub(crate) fn number(rt: &HostRuntime, n: u64) -> io::Result<()> {
+    text(rt, " ")?;
+    print!(rt; "{n}")
 }
 
-pub(crate) fn byte(b: u8) {
-    text(b" ");
-    io::print_hex(STDOUT_FILENO, b as u64, 2);
+pub(crate) fn byte(rt: &HostRuntime, b: u8) -> io::Result<()> {
+    text(rt, " ")?;
+    print!(rt; "{b:02x}")
 }
 
-pub(crate) fn column(u: Column) {
-    byte(u.a);
-    byte(u.b);
-    byte(u.c);
+pub(crate) fn column(rt: &HostRuntime, u: Column) -> io::Result<()> {
+    byte(rt, u.a)?;
+    byte(rt, u.b)?;
+    byte(rt, u.c)?;
+    Ok(())
 }
 
-pub(crate) fn end() {
-    text(b"\n");
+pub(crate) fn end(rt: &HostRuntime) -> io::Result<()> {
+    text(rt, "\n")
 }

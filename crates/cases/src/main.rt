@@ -7,8 +7,11 @@ mod coding;
 mod line;
 mod printing;
 
-fn main() {
-    bytes::run();
-    coding::run();
-    printing::run();
+use std::io;
+
+fn main(rt: HostRuntime) -> io::Result<()> {
+    bytes::run(&rt)?;
+    coding::run(&rt)?;
+    printing::run(&rt)?;
+    Ok(())
 }

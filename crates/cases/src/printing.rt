@@ -1,30 +1,33 @@
 // Fingerprints: the worked ones, and each refusal on both sides of its bound.
 use crate::line;
+use std::io;
 
-pub(crate) fn run() {
+pub(crate) fn run(rt: &HostRuntime) -> io::Result<()> {
     let body = [1, 2, 3, 4, 5, 6];
-    print(0, &body);
-    print(1, &body);
-    print(256, &body);
-    print(256, &[1, 3, 3, 5, 5, 6]);
-    print(16777215, &[0, 0, 0]);
-    print(16777216, &[0, 0, 0]);
-    print(0, &[0, 0, 0, 0]);
-    print(7, &[]);
+    print(rt, 0, &body)?;
+    print(rt, 1, &body)?;
+    print(rt, 256, &body)?;
+    print(rt, 256, &[1, 3, 3, 5, 5, 6])?;
+    print(rt, 16777215, &[0, 0, 0])?;
+    print(rt, 16777216, &[0, 0, 0])?;
+    print(rt, 0, &[0, 0, 0, 0])?;
+    print(rt, 7, &[])?;
     let long = [0u8; 65538];
-    print(1, &long);
+    print(rt, 1, &long)?;
     let longer = [0u8; 65541];
-    print(1, &longer);
-    print(16777216, &longer);
+    print(rt, 1, &longer)?;
+    print(rt, 16777216, &longer)?;
+    Ok(())
 }
 
-fn print(seed: u32, body: &[u8]) {
+fn print(rt: &HostRuntime, seed: u32, body: &[u8]) -> io::Result<()> {
     let got = fingerprint::fingerprint(seed, body);
-    line::text(b"fingerprint at seed, of length");
-    line::number(seed as u64);
-    line::number(body.len() as u64);
-    line::text(b":");
-    line::number(got.number as u64);
-    line::column(got.column);
-    line::end();
+    line::text(rt, "fingerprint at seed, of length")?;
+    line::number(rt, seed as u64)?;
+    line::number(rt, body.len() as u64)?;
+    line::text(rt, ":")?;
+    line::number(rt, got.number as u64)?;
+    line::column(rt, got.column)?;
+    line::end(rt)?;
+    Ok(())
 }

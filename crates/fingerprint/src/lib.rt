@@ -83,7 +83,7 @@ fn sums(a: &[u8; 256], b: &[u8; 256]) -> [u8; 256]
 // Puts the columns that three rows hold side by side into 256 places.
 fn fill(out: &mut [u32], a: &[u8; 256], b: &[u8; 256], c: &[u8; 256])
     requires { length out.old ≡ 256 }
-    ensures { out.new ≡ listed 256 (λ k. horner.packed (record { a = get_or a.entry.now k 0; b = get_or b.now k 0; c = get_or c.now k 0 })) }
+    ensures { out.new ≡ listed 256 (λ k. horner.packed (record { a = get_or a.now k 0; b = get_or b.now k 0; c = get_or c.now k 0 })) }
 {
     let mut k = 0;
     while k < 256 {

@@ -4,19 +4,16 @@
 
 ghost use Rattle.std.specs.Prelude.{◌≤◌};
 
-use libc::STDOUT_FILENO;
+use std::io;
 
-fn main() {
-    report(b"products ", agreeing_products(), 65536);
-    report(b"inverses ", agreeing_inverses(), 255);
+fn main(rt: HostRuntime) -> io::Result<()> {
+    report(&rt, "products ", agreeing_products(), 65536)?;
+    report(&rt, "inverses ", agreeing_inverses(), 255)?;
+    Ok(())
 }
 
-fn report(what: &[u8], agree: u64, all: u64) {
-    io::write_all(STDOUT_FILENO, what);
-    io::print_decimal(STDOUT_FILENO, agree);
-    io::write_all(STDOUT_FILENO, b" of ");
-    io::print_decimal(STDOUT_FILENO, all);
-    io::write_all(STDOUT_FILENO, b"\n");
+fn report(rt: &HostRuntime, what: &str, agree: u64, all: u64) -> io::Result<()> {
+    println!(rt; "{what}{agree} of {all}")
 }
 
 fn agreeing_products() -> u64 {

@@ -4,10 +4,12 @@
 
 mod text;
 
-ghost use Rattle.std.specs.Prelude.{◌≡◌, length};
+ghost use Rattle.std.specs.Prelude.{◌≡◌, ◌≤◌, length};
 
-use libc::STDOUT_FILENO;
+use std::fs::File;
+use std::io::Read;
 use std::num::wrapping_add_u64;
+use std::{fs, io};
 use text::{line_end, number, starts, unhex};
 
 // The case that is being read, and how many were read and agreed.
@@ -18,29 +20,41 @@ struct Tally {
     cases: u64,
 }
 
-fn main() {
-    run(b"short", b"SHA256ShortMsg.rsp");
-    run(b"long", b"SHA256LongMsg.rsp");
-    run(b"edges", b"edges.rsp");
+fn main(rt: HostRuntime) -> io::Result<()> {
+    run(&rt, "short", "SHA256ShortMsg.rsp")?;
+    run(&rt, "long", "SHA256LongMsg.rsp")?;
+    run(&rt, "edges", "edges.rsp")?;
+    Ok(())
 }
 
-fn run(name: &[u8], path: &[u8]) {
-    let fd = os::open_read(path);
-    if fd < 0 {
-        os::fail(path);
-        return;
-    }
+fn run(rt: &HostRuntime, name: &str, path: &str) -> io::Result<()> {
+    let mut opened = match fs::open(rt, path) {
+        Ok(opened) => opened,
+        Err(error) => {
+            return eprintln!(rt; "{path}: {error}");
+        }
+    };
     let mut file = room_for_file();
-    let n = io::read_full(fd, &mut file);
-    libc::close(fd);
+    let n = read_full(&mut opened, &mut file);
+    drop(opened);
     let mut message = room_for_message();
     let tally = read_cases(&file[..n], &mut message);
-    io::write_all(STDOUT_FILENO, name);
-    io::write_all(STDOUT_FILENO, b" ");
-    io::print_decimal(STDOUT_FILENO, tally.agreed);
-    io::write_all(STDOUT_FILENO, b" of ");
-    io::print_decimal(STDOUT_FILENO, tally.cases);
-    io::write_all(STDOUT_FILENO, b"\n");
+    println!(rt; "{name} {} of {}", tally.agreed, tally.cases)
+}
+
+// Reads until `out` is full, the file ends or a read fails, and answers how many bytes were read.
+fn read_full(file: &mut File, out: &mut [u8]) -> usize
+    ensures { result ≤ length out.new }
+{
+    let mut done = 0;
+    while done < out.len() {
+        let n = file.read(&mut out[done..]).unwrap_or(0);
+        if n == 0 {
+            break;
+        }
+        done += n;
+    }
+    done
 }
 
 fn read_cases(file: &[u8], message: &mut [u8]) -> Tally {

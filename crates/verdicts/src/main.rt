@@ -11,18 +11,22 @@ mod records;
 mod room;
 mod told;
 
-fn main() {
-    sound();
-    check_record::run();
-    fragment_record::run();
-    body::run();
-    order::run();
+use std::io;
+
+fn main(rt: HostRuntime) -> io::Result<()> {
+    sound(&rt)?;
+    check_record::run(&rt)?;
+    fragment_record::run(&rt)?;
+    body::run(&rt)?;
+    order::run(&rt)?;
+    Ok(())
 }
 
 // Every fragment of document 01's example.
-fn sound() {
-    changed::fragment(b"fragment 0", 13, b"\x00\x00\x00\x00\x03\x01\x02\x03");
-    changed::fragment(b"fragment 1", 13, b"\x01\x00\x00\x00\x03\x04\x05\x06");
-    changed::fragment(b"fragment 2", 0, b"");
-    changed::fragment(b"fragment 3", 13, b"\x03\x00\x00\x00\x03\x0e\x0b\x0c");
+fn sound(rt: &HostRuntime) -> io::Result<()> {
+    changed::fragment(rt, "fragment 0", 13, b"\x00\x00\x00\x00\x03\x01\x02\x03")?;
+    changed::fragment(rt, "fragment 1", 13, b"\x01\x00\x00\x00\x03\x04\x05\x06")?;
+    changed::fragment(rt, "fragment 2", 0, b"")?;
+    changed::fragment(rt, "fragment 3", 13, b"\x03\x00\x00\x00\x03\x0e\x0b\x0c")?;
+    Ok(())
 }

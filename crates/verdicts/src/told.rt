@@ -1,57 +1,70 @@
 // A line for each input: what was changed, the number, the value, the bytes opened.
 use crate::room::Room;
 use inspect::{Reason, Verdict};
-use libc::STDOUT_FILENO;
+use std::io;
 
 // Of so many bytes of the check record's room and of the fragment's.
 pub(crate) fn parts(
-    what: &[u8],
+    rt: &HostRuntime,
+    what: &str,
     wanted: u64,
     check: &Room,
     check_length: usize,
     fragment: &Room,
     fragment_length: usize,
-) {
+) -> io::Result<()> {
     let c = &check[..];
     let f = &fragment[..];
     if check_length <= c.len() {
         if fragment_length <= f.len() {
-            verdict(what, wanted, &c[0..check_length], &f[0..fragment_length]);
+            verdict(
+                rt,
+                what,
+                wanted,
+                &c[0..check_length],
+                &f[0..fragment_length],
+            )?;
         }
     }
+    Ok(())
 }
 
-fn verdict(what: &[u8], wanted: u64, check: &[u8], fragment: &[u8]) {
-    io::write_all(STDOUT_FILENO, what);
-    io::write_all(STDOUT_FILENO, b":");
+fn verdict(
+    rt: &HostRuntime,
+    what: &str,
+    wanted: u64,
+    check: &[u8],
+    fragment: &[u8],
+) -> io::Result<()> {
+    print!(rt; "{what}:")?;
     match inspect::check(wanted, check, fragment) {
-        Verdict::Accepted(index) => numbers(0, index as u64),
-        Verdict::Refused(reason) => refusal(reason),
+        Verdict::Accepted(index) => numbers(rt, 0, index as u64)?,
+        Verdict::Refused(reason) => refusal(rt, reason)?,
     }
     let opened = inspect::open(wanted, check, fragment);
-    number(opened.len() as u64);
-    io::write_all(STDOUT_FILENO, b"\n");
+    number(rt, opened.len() as u64)?;
+    println!(rt; "")
 }
 
-fn refusal(reason: Reason) {
+fn refusal(rt: &HostRuntime, reason: Reason) -> io::Result<()> {
     match reason {
-        Reason::CheckMark => numbers(5, 0),
-        Reason::CheckShape => numbers(6, 0),
-        Reason::OtherBlock => numbers(7, 0),
-        Reason::FragmentShape => numbers(8, 0),
-        Reason::OtherNumber(found) => numbers(9, found),
-        Reason::NoSuchHead => numbers(10, 0),
-        Reason::Hash => numbers(11, 0),
-        Reason::Fingerprint => numbers(12, 0),
+        Reason::CheckMark => numbers(rt, 5, 0),
+        Reason::CheckShape => numbers(rt, 6, 0),
+        Reason::OtherBlock => numbers(rt, 7, 0),
+        Reason::FragmentShape => numbers(rt, 8, 0),
+        Reason::OtherNumber(found) => numbers(rt, 9, found),
+        Reason::NoSuchHead => numbers(rt, 10, 0),
+        Reason::Hash => numbers(rt, 11, 0),
+        Reason::Fingerprint => numbers(rt, 12, 0),
     }
 }
 
-fn numbers(given: u64, value: u64) {
-    number(given);
-    number(value);
+fn numbers(rt: &HostRuntime, given: u64, value: u64) -> io::Result<()> {
+    number(rt, given)?;
+    number(rt, value)?;
+    Ok(())
 }
 
-fn number(n: u64) {
-    io::write_all(STDOUT_FILENO, b" ");
-    io::print_decimal(STDOUT_FILENO, n);
+fn number(rt: &HostRuntime, n: u64) -> io::Result<()> {
+    print!(rt; " {n}")
 }

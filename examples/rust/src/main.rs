@@ -1,6 +1,6 @@
 //! Cuts a block for twelve heads, checks one fragment, loses four, and joins the block from the other eight.
 //!
-//! At the top of the repository, after `rt staticlib abi`:
+//! At the top of the repository, after `host/archive`:
 //!
 //!     cargo run --release --manifest-path examples/rust/Cargo.toml
 
