@@ -1,3 +1,4 @@
+-- `abi::give` meets its contract: by its two tests. Assumes nothing.
 use lib.ListN.{length}
 use mathlib.Core.Path.{◌∙◌}
 use Rattle.abi.proofs.Giving.{refused, other, put}

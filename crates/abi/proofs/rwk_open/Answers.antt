@@ -1,3 +1,4 @@
+-- `abi::rwk_open` meets its contract: by the number of the verdict. Assumes nothing.
 use mathlib.Core.Path.{◌≡◌, sym, ap, ◌∙◌}
 use Rattle.inspect.specs.Answer.{Answer}
 use Rattle.inspect.specs.Check.{checked}

@@ -1,3 +1,4 @@
+-- `code::add_scaled` meets its contract: a short body product by product, another byte by byte, with what is left still to be added.
 use native.Mathlib.Omega.{arith}
 use Rattle.field.proofs.Added.{add_turn, add_end}
 use Rattle.code.proofs.Sums.{row_read}

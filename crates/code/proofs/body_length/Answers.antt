@@ -1,3 +1,4 @@
+-- `code::body_length` meets its contract: the two cases of m.
 use Rattle.code.proofs.Lengths.{no_bodies, some_bodies}
 use Rattle.code.proofs.body_length.Goals as goal
 

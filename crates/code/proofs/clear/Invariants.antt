@@ -1,3 +1,4 @@
+-- `code::clear` meets its contract: zero bytes from the front, and behind them what was there.
 use mathlib.Core.Path.{◌≡◌}
 use mathlib.Core.List.{◌++◌}
 use Prim.Native.Nat.{◌-◌, ◌≤◌}

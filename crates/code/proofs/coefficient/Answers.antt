@@ -1,3 +1,4 @@
+-- `code::coefficient` meets its contract: nothing from m on, one of the block's own bodies, and the closed form for every other.
 use mathlib.Core.Path.{sym, ◌∙◌}
 use native.Mathlib.Omega.{arith}
 use Rattle.code.proofs.Bodies.{coefficient_one, coefficient_none, coefficient_read, coefficient_beyond}

@@ -1,3 +1,4 @@
+-- `code::points` meets its contract: each point is put at its own place.
 use native.Mathlib.Omega.{arith}
 use Rattle.code.specs.Cutting.{points}
 use Rattle.code.proofs.Walks.{listed_all}

@@ -1,3 +1,4 @@
+-- `code::spread` meets its contract: t itself is left out.
 use Rattle.code.specs.Weights.{spread}
 use Rattle.code.proofs.spread.Goals as goal
 

@@ -1,3 +1,4 @@
+-- `code::weight` meets its contract: a weight is a quotient of two spreads.
 use mathlib.Core.Path.{sym, ap₂, ◌∙◌}
 use Prim.Native.Nat.{ℕ}
 use Rattle.field.specs.Byte.{times, inverse}

@@ -1,3 +1,4 @@
+-- `cut` meets its contract: a refusal, or the records and then their check record.
 use mathlib.Core.Path.{◌≡◌, sym, ◌∙◌}
 use native.Mathlib.Omega.{arith}
 use Rattle.cut.proofs.Records.{check_is}

@@ -1,3 +1,4 @@
+-- `field::inverse` meets its contract: what stands at 255 less the place is the inverse.
 use mathlib.Core.Path.{sym, ap, ◌∙◌}
 use Rattle.field.specs.Byte.{inverse}
 use Rattle.field.proofs.Inverses.{inverse_none}

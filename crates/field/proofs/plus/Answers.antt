@@ -1,3 +1,4 @@
+-- `field::plus` meets its contract: the code's operation is the definition's.
 use mathlib.Core.Path.{refl}
 use Rattle.field.specs.Byte.{plus}
 use Rattle.field.proofs.plus.Goals as goal

@@ -1,3 +1,4 @@
+-- `field::quotient` meets its contract: the place of an inverse is 255 less the place.
 use mathlib.Core.Path.{ap, ◌∙◌}
 use Rattle.field.specs.Byte.{inverse}
 use Rattle.field.proofs.Inverses.{inverse_none}

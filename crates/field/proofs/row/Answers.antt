@@ -1,3 +1,4 @@
+-- `field::row` meets its contract: the loop puts each product at its place, one power of 03 after the other.
 use native.Mathlib.Omega.{arith}
 use Rattle.field.proofs.Rows.{start, fill_read, filled, row_none}
 use Rattle.field.proofs.row.Goals as goal

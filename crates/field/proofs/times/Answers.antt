@@ -1,3 +1,4 @@
+-- `field::times` meets its contract: what stands at the sum of two places is the product.
 use native.Mathlib.Omega.{arith}
 use Rattle.field.proofs.Lookups.{none_left, none_right, look_times}
 use Rattle.field.proofs.times.Goals as goal

@@ -1,3 +1,4 @@
+-- `fingerprint::called_for` meets its contract: the body's own fingerprint, or the combination by its coefficients.
 use mathlib.Core.Path.{sym, ap, ◌∙◌}
 use mathlib.Core.List.{List}
 use Prim.Native.Nat.{ℕ}

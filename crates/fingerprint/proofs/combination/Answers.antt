@@ -1,3 +1,4 @@
+-- `fingerprint::combination` meets its contract: the sum is the combination of those passed, from the last to the first.
 use mathlib.Core.Path.{refl, ◌∙◌}
 use native.Mathlib.Omega.{arith}
 use Rattle.fingerprint.specs.Fingerprint.{columns_of}

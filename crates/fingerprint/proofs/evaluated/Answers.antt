@@ -1,3 +1,4 @@
+-- `fingerprint::evaluated` meets its contract: from the last column to the first, the two values are those of the columns passed.
 use mathlib.Core.Path.{◌∙◌}
 use Prim.Native.Nat.{◌-◌, ◌%◌}
 use native.Mathlib.Omega.{arith}

@@ -1,3 +1,4 @@
+-- `fingerprint::fill` meets its contract: each column is put at its place.
 use native.Mathlib.Omega.{arith}
 use Rattle.code.proofs.Walks.{listed_all}
 use Rattle.fingerprint.proofs.fill.Goals as goal

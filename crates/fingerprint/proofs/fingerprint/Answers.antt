@@ -1,3 +1,4 @@
+-- `fingerprint::fingerprint` meets its contract: three refusals, and the fingerprint.
 use mathlib.Core.Path.{◌∙◌}
 use native.Mathlib.Omega.{arith}
 use Rattle.code.proofs.Walks.{all_small}

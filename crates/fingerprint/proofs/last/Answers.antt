@@ -1,3 +1,4 @@
+-- `fingerprint::last` meets its contract: nothing is left, or one column.
 use mathlib.Core.Path.{ap, ◌∙◌}
 use Prim.Native.Nat.{◌+◌}
 use native.Mathlib.Omega.{arith}

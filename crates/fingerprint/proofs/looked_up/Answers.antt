@@ -1,3 +1,4 @@
+-- `fingerprint::looked_up` meets its contract: the exclusive or of three entries is the sum of their columns.
 use Rattle.fingerprint.specs.Horner.{unpacked, looked_up}
 use Rattle.fingerprint.proofs.Packing.{unpacked_plus₃}
 use Rattle.fingerprint.proofs.looked_up.Goals as goal

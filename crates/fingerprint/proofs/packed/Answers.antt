@@ -1,3 +1,4 @@
+-- `fingerprint::packed` meets its contract: the code's sum is the definition's.
 use mathlib.Core.Path.{refl}
 use Rattle.fingerprint.specs.Horner.{packed}
 use Rattle.fingerprint.proofs.packed.Goals as goal

@@ -1,3 +1,4 @@
+-- `fingerprint::print_at` meets its contract: the three bytes of the column, where there is one.
 use mathlib.Core.Path.{sym, ◌∙◌}
 use native.Mathlib.Omega.{arith}
 use Rattle.column.proofs.Seed.{column_path}

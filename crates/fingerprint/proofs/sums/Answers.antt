@@ -1,3 +1,4 @@
+-- `fingerprint::sums` meets its contract: place by place.
 use native.Mathlib.Omega.{arith}
 use Rattle.code.proofs.Walks.{listed_all}
 use Rattle.fingerprint.proofs.sums.Goals as goal

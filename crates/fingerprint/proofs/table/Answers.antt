@@ -1,3 +1,4 @@
+-- `fingerprint::table` meets its contract: three times 256 places, filled one after the other from rows.
 use mathlib.Core.Path.{refl, ap, ◌∙◌}
 use native.Mathlib.Omega.{arith}
 use lib.ListN.{length}

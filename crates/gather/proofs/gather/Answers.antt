@@ -1,3 +1,4 @@
+-- `gather::gather` meets its contract: what is held is that of the records read, up to the m-th that is used or the last of all.
 use mathlib.Core.Path.{◌≡◌, ap, ◌∙◌}
 use Prim.Native.Nat.{◌+◌, ◌/◌}
 use native.Mathlib.Omega.{arith}

@@ -1,3 +1,4 @@
+-- `gather::has` meets its contract: where the index was not found yet, it is there exactly if it is further on.
 use native.Mathlib.Omega.{arith}
 use Rattle.gather.proofs.Holding.{found, not_yet, nowhere}
 use Rattle.gather.proofs.has.Goals as goal

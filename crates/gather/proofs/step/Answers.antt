@@ -1,3 +1,4 @@
+-- `gather::step` meets its contract: the next record is checked where it lies, and passed over or used.
 use mathlib.Core.Path.{sym}
 use native.Mathlib.Omega.{arith}
 use lib.Seq.{length-take-le}

@@ -1,3 +1,4 @@
+-- `gather::stride` meets its contract: what stands before a body, and the body.
 use native.Mathlib.Omega.{arith}
 use Rattle.gather.proofs.Places.{stride_fits, stride_is}
 use Rattle.gather.proofs.stride.Goals as goal

@@ -1,3 +1,4 @@
+-- `inspect::check` meets its contract: test by test, each with those before it.
 use mathlib.Core.Path.{◌≡◌, sym, ap, subst, ◌∙◌}
 use mathlib.Core.Bool.{true}
 use Prim.Native.Nat.{ℕ, ◌≤◌}

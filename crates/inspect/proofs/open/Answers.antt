@@ -1,3 +1,4 @@
+-- `inspect::open` meets its contract: the part and its place, after a verdict of either kind.
 use mathlib.Core.Path.{refl}
 use native.Mathlib.Omega.{arith}
 use Rattle.inspect.proofs.Opening.{Opens, opens, shuts}

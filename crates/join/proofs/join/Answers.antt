@@ -1,3 +1,4 @@
+-- `join::join` meets its contract: refused by the tests, or by 13, or as the block is rebuilt.
 use mathlib.Core.Path.{ap, ◌∙◌}
 use lib.ListN.{take}
 use Rattle.code.proofs.Walks.{all_small}

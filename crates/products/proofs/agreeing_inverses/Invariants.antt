@@ -1,3 +1,4 @@
+-- `products::agreeing_inverses` is safe and ends: at most one inverse agrees in each turn.
 use Prim.Native.Nat.{◌≤◌, ◌-◌}
 use Rattle.products.proofs.agreeing_inverses.Given as goal
 

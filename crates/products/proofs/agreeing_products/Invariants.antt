@@ -1,3 +1,4 @@
+-- `products::agreeing_products` is safe and ends: at most 256 products agree in each turn.
 use Prim.Native.Nat.{◌≤◌, ◌-◌, ◌*◌}
 use Rattle.products.proofs.agreeing_products.Given as goal
 

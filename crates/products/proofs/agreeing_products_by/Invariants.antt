@@ -1,3 +1,4 @@
+-- `products::agreeing_products_by` meets its contract: at most one product agrees in each turn.
 use Prim.Native.Nat.{◌≤◌, ◌-◌}
 use Rattle.products.proofs.agreeing_products_by.Given as goal
 

@@ -1,3 +1,4 @@
+-- `products::long_product` is safe and ends: the eight digits are counted up.
 use Prim.Native.Nat.{◌≤◌, ◌-◌}
 use Rattle.products.proofs.long_product.Given as goal
 

@@ -1,3 +1,4 @@
+-- `products::remainder` is safe and ends: the seven places are counted down.
 use Prim.Native.Nat.{◌≤◌}
 use Rattle.products.proofs.remainder.Given as goal
 

@@ -1,3 +1,4 @@
+-- `products::second_inverse` is safe and ends: the bytes are counted up.
 use Prim.Native.Nat.{◌≤◌, ◌-◌}
 use Rattle.products.proofs.second_inverse.Given as goal
 

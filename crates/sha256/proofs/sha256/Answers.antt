@@ -1,3 +1,4 @@
+-- `sha256::sha256` meets its contract: by the test on the length. Assumes nothing.
 use Rattle.std.proofs.Common.{ℕ, List, ap, ◌∙◌, le-ltb, lt-ltb}
 use Rattle.sha256.proofs.Pieces.{whole}
 use Rattle.sha256.specs.Hash.{finished, answered}

@@ -1,3 +1,4 @@
+-- `tell` meets its contract: a text that starts at the array's start.
 use Rattle.tell.proofs.Choice.{at_start}
 use Rattle.tell.proofs.tell.Goals as goal
 

@@ -1,3 +1,4 @@
+-- `tell_within` meets its contract: too short, too long, and the rest.
 use mathlib.Core.Path.{ap, ◌∙◌}
 use native.Mathlib.Nat.{zero-add}
 use native.Mathlib.Omega.{arith}

@@ -1,3 +1,4 @@
+-- `vectors::count_up` meets its contract: it stays within the message. Assumes nothing.
 use Rattle.std.proofs.Common.{◌≡◌, ◌-◌, ◌≤◌, length}
 use Rattle.vectors.proofs.count_up.Given as goal
 

@@ -1,3 +1,4 @@
+-- `vectors::read_cases` meets its contract: it stays within the file, and passes a byte at least in each turn. Assumes nothing.
 use Rattle.std.proofs.Common.{◌≡◌, ◌+◌, ◌-◌, ◌≤◌, length}
 use Rattle.vectors.proofs.read_cases.Given as goal
 

@@ -1,3 +1,4 @@
+-- `cases::bytes::power_of_three` is safe and ends.
 use Prim.Native.Nat.{◌≤◌, ◌-◌}
 use Rattle.cases.proofs.bytes.power_of_three.Given as goal
 

@@ -1,3 +1,4 @@
+-- `code::weights::coefficients` meets its contract: the spreads of the first m points, and their shares at i.
 use mathlib.Core.Path.{sym, ap, ◌∙◌}
 use mathlib.Core.List.{List}
 use Prim.Native.Nat.{ℕ, ◌≤◌}

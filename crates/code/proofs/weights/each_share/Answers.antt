@@ -1,3 +1,4 @@
+-- `code::weights::each_share` meets its contract: the shares are written one by one.
 use native.Mathlib.Omega.{arith}
 use Rattle.code.specs.Shares.{shares}
 use Rattle.code.proofs.Shares.{shares_length, shares_at}

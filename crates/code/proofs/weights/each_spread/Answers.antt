@@ -1,3 +1,4 @@
+-- `code::weights::each_spread` meets its contract: the spreads are written one by one.
 use mathlib.Core.Path.{sym, ◌∙◌}
 use mathlib.Core.List.{map}
 use Prim.Native.Nat.{◌<◌}

@@ -1,3 +1,4 @@
+-- `code::weights::share` meets its contract: all of the value at p itself, and the quotient elsewhere.
 use Rattle.code.proofs.Shares.{share_own, share_quotient}
 use Rattle.code.proofs.weights.share.Goals as goal
 

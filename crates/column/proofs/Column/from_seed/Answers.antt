@@ -1,3 +1,4 @@
+-- `Column::from_seed` meets its contract: the two cases of a seed number.
 use mathlib.Core.Path.{sym}
 use Rattle.column.proofs.Seed.{large_seed, small_seed}
 use Rattle.column.proofs.Column.from_seed.Goals as goal

@@ -1,3 +1,4 @@
+-- `Column::plus` meets its contract: byte by byte.
 use Rattle.column.specs.Column.{plus}
 use Rattle.column.proofs.Seed.{column_path}
 use Rattle.column.proofs.Column.plus.Goals as goal

@@ -1,3 +1,4 @@
+-- `Column::scaled` meets its contract: byte by byte.
 use Rattle.column.specs.Column.{scaled}
 use Rattle.column.proofs.Seed.{column_path}
 use Rattle.column.proofs.Column.scaled.Goals as goal

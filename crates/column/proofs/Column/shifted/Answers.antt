@@ -1,3 +1,4 @@
+-- `Column::shifted` meets its contract: byte by byte.
 use Rattle.column.specs.Column.{shifted}
 use native.Mathlib.Omega.{arith}
 use Rattle.field.proofs.Sum.{plus_comm}

@@ -1,3 +1,4 @@
+-- `Column::times` meets its contract: Horner's rule, step by step.
 use mathlib.Core.Path.{ap, ap₂, ◌∙◌}
 use Rattle.column.specs.Column.{plus, scaled, shifted, times}
 use Rattle.column.proofs.Column.times.Goals as goal

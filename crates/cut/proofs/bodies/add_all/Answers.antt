@@ -1,3 +1,4 @@
+-- `bodies::add_all` meets its contract: from the last of the block's own bodies to the first.
 use mathlib.Core.Path.{◌≡◌, ap, sym, ◌∙◌}
 use lib.ListN.{length}
 use native.Mathlib.Omega.{arith}

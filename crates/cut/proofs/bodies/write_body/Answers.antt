@@ -1,3 +1,4 @@
+-- `bodies::write_body` meets its contract: one of the block's own bodies, or the sum of them by the coefficients.
 use mathlib.Core.Path.{sym, ap, ◌∙◌}
 use mathlib.Core.List.{List}
 use Prim.Native.Nat.{ℕ}

@@ -1,3 +1,4 @@
+-- `fragments::write_each` meets its contract: one record for each body.
 use mathlib.Core.Path.{ap}
 use Prim.Native.Nat.{ℕ, ◌+◌, ◌*◌}
 use native.Mathlib.Omega.{arith}

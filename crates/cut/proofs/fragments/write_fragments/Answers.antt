@@ -1,3 +1,4 @@
+-- `fragments::write_fragments` meets its contract: the points and their spreads once, then each record.
 use mathlib.Core.Path.{refl, sym, ap, ◌∙◌}
 use Prim.Native.Nat.{ℕ, ◌*◌}
 use lib.ListN.{length, take, replicate}

@@ -1,3 +1,4 @@
+-- `fragments::write_record` meets its contract: the head, and the body behind it.
 use Rattle.cut.proofs.Records.{body_size, record_written}
 use Rattle.cut.proofs.fragments.write_record.Goals as goal
 

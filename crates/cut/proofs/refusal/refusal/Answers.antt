@@ -1,3 +1,4 @@
+-- `refusal::refusal` meets its contract: one test after the other.
 use mathlib.Core.Path.{sym, ◌∙◌}
 use lib.ListN.{length}
 use native.Mathlib.Omega.{arith}

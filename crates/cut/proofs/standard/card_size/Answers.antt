@@ -1,3 +1,4 @@
+-- `standard::card_size` meets its contract: the refusal, and the plan.
 use native.Mathlib.Omega.{arith}
 use Rattle.cut.specs.Standard.{m}
 use Rattle.cut.proofs.Planning.{no_plan, plan}

@@ -1,3 +1,4 @@
+-- `summary::body_among` meets its contract: a start and an end within the records.
 use Rattle.cut.proofs.Among.{among_part}
 use Rattle.cut.proofs.summary.body_among.Goals as goal
 

@@ -1,3 +1,4 @@
+-- `summary::write_check` meets its contract: the head, the hashes and the fingerprints.
 use mathlib.Core.Path.{ap, ◌∙◌}
 use mathlib.Core.List.{List}
 use Prim.Native.Nat.{ℕ, ◌*◌}

@@ -1,3 +1,4 @@
+-- `summary::write_hashes` meets its contract: 32 bytes for each body.
 use mathlib.Core.Path.{refl}
 use Prim.Native.Nat.{◌+◌, ◌*◌}
 use native.Mathlib.Omega.{arith}

@@ -1,3 +1,4 @@
+-- `summary::write_prints` meets its contract: three bytes for each of the first bodies.
 use mathlib.Core.Path.{refl, ap}
 use Prim.Native.Nat.{◌+◌, ◌*◌}
 use native.Mathlib.Omega.{arith}

@@ -1,3 +1,4 @@
+-- `field::adding::add_products` meets its contract: byte by byte, with what is left still to be added.
 use mathlib.Core.Path.{refl, ap₂, ◌∙◌}
 use native.Mathlib.Omega.{arith}
 use Rattle.field.specs.Byte.{times}

@@ -1,3 +1,4 @@
+-- `field::adding::multiple` meets its contract: what stands at the sum of two places, or 00.
 use native.Mathlib.Omega.{arith}
 use Rattle.std.proofs.lemmas.Bool.Decides.{nat_tests}
 use Rattle.field.proofs.Lookups.{look_multiple}

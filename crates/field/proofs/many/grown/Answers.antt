@@ -1,3 +1,4 @@
+-- `field::many::grown` meets its contract: the two ways to 00, and the sum of places with and without a turn round the powers.
 use native.Mathlib.Omega.{arith}
 use Rattle.field.proofs.Growth.{grown_zero, grown_none, grown_within, grown_over}
 use Rattle.field.proofs.many.grown.Goals as goal

@@ -1,3 +1,4 @@
+-- `field::many::nodal` meets its contract: from the last point to the first, the product over those that are done.
 use native.Mathlib.Omega.{arith}
 use Rattle.field.proofs.Growth.{none_nodal, one_nodal}
 use Rattle.field.proofs.many.nodal.Goals as goal

@@ -1,3 +1,4 @@
+-- `field::many::settled` meets its contract: 0, or what stands at the place.
 use mathlib.Core.Path.{sym}
 use native.Mathlib.Omega.{arith}
 use Rattle.field.proofs.Growth.{at_zero, look_place}

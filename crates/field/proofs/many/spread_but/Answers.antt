@@ -1,3 +1,4 @@
+-- `field::many::spread_but` meets its contract: from the last point to the first, the product over those that are done and are not p.
 use native.Mathlib.Omega.{arith}
 use Rattle.field.proofs.Growth.{none_spread, multiplied, passed_over}
 use Rattle.field.proofs.many.spread_but.Goals as goal

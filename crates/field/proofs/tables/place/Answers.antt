@@ -1,3 +1,4 @@
+-- `field::tables::place` meets its contract: what is read in a table that has the rule.
 use Rattle.field.proofs.Places.{place_read}
 use borrow.Author.Rules.{rules}
 use Rattle.field.proofs.tables.place.Goals as goal

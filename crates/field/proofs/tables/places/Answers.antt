@@ -1,3 +1,4 @@
+-- `field::tables::places` meets its contract: the table is the list of places that antt computes.
 use Rattle.field.specs.Byte.{plus, xtime, product, times}
 use Rattle.field.proofs.Places.{powers, table, seek, seeks, places, places_rule}
 use Rattle.field.proofs.tables.places.Goals as goal

@@ -1,3 +1,4 @@
+-- `field::tables::powers` meets its contract: the table passes the test, which antt computes over its 510 entries.
 use Rattle.field.specs.Byte.{plus, xtime, product, times}
 use Rattle.field.proofs.Power.{follows, tested}
 use Rattle.field.proofs.Test.{both}

@@ -1,3 +1,4 @@
+-- `agree::hash_agrees` meets its contract: the hash lies within the check record, and the body is not too long.
 use Prim.Native.Nat.{◌+◌, ◌≤◌}
 use native.Mathlib.Omega.{arith}
 use lib.ListN.{length}

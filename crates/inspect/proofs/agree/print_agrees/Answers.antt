@@ -1,3 +1,4 @@
+-- `agree::print_agrees` meets its contract: the fingerprints lie within the check record, and the seed and the body are bytes.
 use Prim.Native.Nat.{◌≤◌}
 use native.Mathlib.Omega.{arith}
 use lib.ListN.{length}

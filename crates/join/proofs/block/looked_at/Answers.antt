@@ -1,3 +1,4 @@
+-- `join::block::looked_at` meets its contract: from the last byte to the first.
 use mathlib.Core.Bool.{false}
 use native.Mathlib.Omega.{arith}
 use Rattle.join.proofs.Blocks.{fill_looked, zero_none, zero_more, zero_not}

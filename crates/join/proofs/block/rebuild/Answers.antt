@@ -1,3 +1,4 @@
+-- `join::block::rebuild` meets its contract: the output is written only where the fill is zero.
 use mathlib.Core.Path.{sym, ◌∙◌}
 use native.Mathlib.Omega.{arith}
 use lib.ListN.{length, take, replicate}

@@ -1,3 +1,4 @@
+-- `join::block::write_part` meets its contract: from the front, as much of one body at a time as it has.
 use Prim.Native.Nat.{◌+◌, ◌*◌, ◌/◌, ◌%◌, ◌<◌}
 use native.Mathlib.Omega.{arith}
 use lib.ListN.{length}

@@ -1,3 +1,4 @@
+-- `join::block::write_run` meets its contract: the indexes' weights at t, and the sum by them.
 use mathlib.Core.Path.{sym, ◌∙◌}
 use native.Mathlib.Omega.{arith}
 use lib.ListN.{length, take, replicate}

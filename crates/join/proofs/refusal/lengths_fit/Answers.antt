@@ -1,3 +1,4 @@
+-- `join::refusal::lengths_fit` meets its contract: the three conditions, each made whatever the others say.
 use native.Mathlib.Omega.{arith}
 use Rattle.gather.proofs.Places.{some_stride}
 use Rattle.join.proofs.Tested.{lengths}

@@ -1,3 +1,4 @@
+-- `join::regain::add_parts` meets its contract: from the last record to the first.
 use mathlib.Core.Path.{refl}
 use Prim.Native.Nat.{◌+◌, ◌-◌, ◌*◌, ◌≤◌}
 use native.Mathlib.Omega.{arith}

@@ -1,3 +1,4 @@
+-- `places::hashes_place` meets its contract: the sum is small.
 use native.Mathlib.Omega.{arith}
 use Rattle.record.proofs.Head.{head_below}
 use Rattle.record.proofs.places.hashes_place.Goals as goal

@@ -1,3 +1,4 @@
+-- `places::head` meets its contract.
 use Rattle.record.specs.Layout.{head}
 use borrow.Author.Rules.{rules}
 use Rattle.record.proofs.places.head.Goals as goal

@@ -1,3 +1,4 @@
+-- `places::record_length` meets its contract: the sum is small.
 use native.Mathlib.Omega.{arith}
 use Rattle.record.proofs.Head.{head_below}
 use Rattle.record.proofs.places.record_length.Goals as goal

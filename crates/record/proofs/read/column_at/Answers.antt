@@ -1,3 +1,4 @@
+-- `read::column_at` meets its contract: byte by byte.
 use Rattle.column.proofs.Seed.{column_path}
 use Rattle.record.specs.Layout.{column_at}
 use Rattle.record.proofs.read.column_at.Goals as goal

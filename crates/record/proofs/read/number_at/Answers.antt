@@ -1,3 +1,4 @@
+-- `read::number_at` meets its contract. The invariant is the definition: `n` is the number that the first `k` bytes stand for.
 use mathlib.Core.Path.{◌∙◌}
 use native.Mathlib.Omega.{arith}
 use Rattle.record.specs.Layout.{number_at}

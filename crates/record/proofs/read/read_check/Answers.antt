@@ -1,3 +1,4 @@
+-- `read::read_check` meets its contract: field by field, and four bytes fit 32 bits.
 use native.Mathlib.Omega.{arith}
 use Rattle.record.proofs.Head.{head_below}
 use Rattle.record.proofs.Numbers.{number_below}

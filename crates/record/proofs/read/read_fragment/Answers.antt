@@ -1,3 +1,4 @@
+-- `read::read_fragment` meets its contract: field by field, and four bytes fit 32 bits.
 use Prim.Native.Nat.{◌+◌}
 use native.Mathlib.Omega.{arith}
 use Rattle.record.proofs.Head.{head_below}

@@ -1,3 +1,4 @@
+-- `read::version_of` meets its contract: two bytes fit 16 bits.
 use native.Mathlib.Omega.{arith}
 use Rattle.record.specs.Heads.{version_of}
 use Rattle.record.proofs.Numbers.{number_below}

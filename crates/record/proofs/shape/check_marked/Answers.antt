@@ -1,3 +1,4 @@
+-- `shape::check_marked` meets its contract: test by test.
 use Rattle.record.proofs.Tests.{check_marked_test}
 use Rattle.record.proofs.shape.check_marked.Goals as goal
 

@@ -1,3 +1,4 @@
+-- `shape::check_shaped` meets its contract: test by test.
 use Rattle.record.proofs.Tests.{check_shaped_test}
 use Rattle.record.proofs.shape.check_shaped.Goals as goal
 

@@ -1,3 +1,4 @@
+-- `shape::fragment_shaped` meets its contract: test by test.
 use Rattle.record.proofs.Tests.{fragment_shaped_test}
 use Rattle.record.proofs.shape.fragment_shaped.Goals as goal
 

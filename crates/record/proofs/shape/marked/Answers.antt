@@ -1,3 +1,4 @@
+-- `shape::marked` meets its contract: byte by byte.
 use Rattle.record.proofs.Tests.{marked_test}
 use Rattle.record.proofs.shape.marked.Goals as goal
 

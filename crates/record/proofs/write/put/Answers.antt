@@ -1,3 +1,4 @@
+-- `write::put` meets its contract. The invariant: the first `k` bytes are copied, and the rest of the buffer is as it was.
 use mathlib.Core.Path.{sym, ◌∙◌}
 use native.Mathlib.Omega.{arith}
 use lib.ListN.{length-set}

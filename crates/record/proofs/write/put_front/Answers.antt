@@ -1,3 +1,4 @@
+-- `write::put_front` meets its contract: the bytes are those of the definition.
 use mathlib.Core.Path.{ap, ◌∙◌}
 use mathlib.Core.List.{List}
 use Prim.Native.Nat.{ℕ}

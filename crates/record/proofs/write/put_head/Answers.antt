@@ -1,3 +1,4 @@
+-- `write::put_head` meets its contract: what is too short is left alone, and the fields go into the part behind the front.
 use native.Mathlib.Omega.{arith}
 use Rattle.record.proofs.Front.{head_short, head_written}
 use Rattle.record.proofs.write.put_head.Goals as goal

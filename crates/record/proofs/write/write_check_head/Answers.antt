@@ -1,3 +1,4 @@
+-- `write::write_check_head` meets its contract: the bytes are those of the definition.
 use mathlib.Core.Path.{◌∙◌}
 use Rattle.record.proofs.Front.{check_bytes}
 use Rattle.record.proofs.write.write_check_head.Goals as goal

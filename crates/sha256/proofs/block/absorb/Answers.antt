@@ -1,3 +1,4 @@
+-- `sha256::block::absorb` meets its contract. The invariant: v is the hash value after i blocks. Assumes nothing.
 use Rattle.std.proofs.Common.{◌≡◌, ℕ, ◌/◌, length, refl, ap, ◌∙◌, arith}
 use Rattle.sha256.proofs.Pieces.{lent, absorbed_one}
 use Rattle.sha256.specs.Fips180.{K, next, Hⁱ, Hᴺ}

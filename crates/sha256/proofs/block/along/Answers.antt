@@ -1,3 +1,4 @@
+-- `sha256::block::along` meets its contract: after i turns the first i words have given way. Assumes nothing.
 use Rattle.std.proofs.Common.{arith}
 use Rattle.std.proofs.Common.{ℕ, ◌≤◌, sym, refl, ap, ◌∙◌, le_trans, add-zero}
 use Rattle.sha256.proofs.Scheduling.{listed, constants, words, words_on, ring, After, further}

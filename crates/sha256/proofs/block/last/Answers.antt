@@ -1,3 +1,4 @@
+-- `sha256::block::last` meets its contract: turn t + i has constant and word t + i. Assumes nothing.
 use Rattle.std.proofs.Common.{ℕ, List, get_or, sym, ap, ◌∙◌, add-zero}
 use Rattle.sha256.proofs.Scheduling.{listed, constants, words, turned}
 use Rattle.sha256.specs.Fips180.{W, turns}

@@ -1,3 +1,4 @@
+-- `sha256::block::next` meets its contract. The invariant: w is words t to t + 15 of the schedule, and v is what t turns made of s. Assumes nothing.
 use Rattle.std.proofs.Common.{◌≡◌, ℕ, length, take, drop, refl, ap, ◌∙◌, arith}
 use Rattle.sha256.proofs.Scheduling.{front, length_K, lent_last, length_lent}
 use Rattle.sha256.specs.Fips180.{W, turns, next}

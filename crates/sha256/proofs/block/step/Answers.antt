@@ -1,3 +1,4 @@
+-- `sha256::block::step` meets its contract: the table of constants is that of the definition. Assumes nothing.
 use Rattle.std.proofs.Common.{rules}
 use Rattle.sha256.specs.Fips180.{K}
 use Rattle.sha256.proofs.block.step.Goals as goal

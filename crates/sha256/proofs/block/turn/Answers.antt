@@ -1,3 +1,4 @@
+-- `sha256::block::turn` meets its contract: each sum is that of the definition. Assumes nothing.
 use Rattle.sha256.proofs.Scheduling.{one_turn}
 use Rattle.sha256.proofs.block.turn.Goals as goal
 

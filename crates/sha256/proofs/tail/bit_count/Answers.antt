@@ -1,3 +1,4 @@
+-- `sha256::tail::bit_count` meets its contract: the bits are eight times the bytes, so a shift of the bits is one by three less of the bytes. Assumes nothing.
 use Rattle.std.proofs.Common.{◌≡◌, ◌*◌, ◌/◌, ◌%◌, arith}
 use Rattle.sha256.proofs.Ending.{of_bits}
 use Rattle.sha256.specs.Fips180.{bytes}

@@ -1,3 +1,4 @@
+-- `sha256::tail::end_byte` meets its contract: each test leads to one part of the end. Assumes nothing.
 use Rattle.std.proofs.Common.{ℕ, ◌-◌, List, get_or, ◌∙◌, ap₂, arith}
 use Rattle.sha256.proofs.Ending.{length_ended, in_one, in_zeros, in_length}
 use Rattle.sha256.proofs.tail.end_byte.Goals as goal

@@ -1,3 +1,4 @@
+-- `sha256::tail::fill` meets its contract. The invariant: the first i bytes are those of the end. Assumes nothing.
 use Rattle.std.proofs.Common.{◌≡◌, ◌-◌, ◌≤◌, ◌++◌, length, take}
 use Rattle.sha256.specs.Fips180.{padding}
 use Rattle.sha256.proofs.tail.fill.Given as goal

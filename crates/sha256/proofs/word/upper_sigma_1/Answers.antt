@@ -1,3 +1,4 @@
+-- `sha256::word::upper_sigma_1` meets its contract: a rotation inside another is one by the sum. Assumes nothing.
 use Rattle.std.proofs.Common.{ℕ, ap, ◌∙◌, arith}
 use lib.Bits.{bit_xor}
 use Rattle.sha256.proofs.Shorter.{three}

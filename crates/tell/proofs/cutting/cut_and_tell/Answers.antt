@@ -1,3 +1,4 @@
+-- `cutting::cut_and_tell` meets its contract: there is room.
 use mathlib.Core.Path.{sym, ◌∙◌}
 use native.Mathlib.Omega.{arith}
 use lib.ListN.{length, replicate}

@@ -1,3 +1,4 @@
+-- `cutting::cut_within` meets its contract: the cut's refusal, or the lines of what it wrote.
 use mathlib.Core.Path.{sym, ap, ◌∙◌}
 use native.Mathlib.Nat.{zero-add}
 use native.Mathlib.Omega.{arith}

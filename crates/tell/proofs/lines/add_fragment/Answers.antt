@@ -1,3 +1,4 @@
+-- `lines::add_fragment` meets its contract: the fingerprint's field and the line feed are the ending.
 use mathlib.Core.Path.{ap, ◌∙◌}
 use mathlib.Core.List.{List}
 use Prim.Native.Nat.{ℕ, ◌+◌}

@@ -1,3 +1,4 @@
+-- `lines::digit` meets its contract: below ten and above.
 use native.Mathlib.Omega.{arith}
 use Rattle.tell.proofs.Hexadecimal.{low, high}
 use Rattle.tell.proofs.lines.digit.Goals as goal

@@ -1,3 +1,4 @@
+-- `lines::in_hexadecimal` meets its contract: six digits.
 use Rattle.tell.proofs.Hexadecimal.{spelled}
 use Rattle.tell.proofs.lines.in_hexadecimal.Goals as goal
 

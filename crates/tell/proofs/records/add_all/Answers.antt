@@ -1,3 +1,4 @@
+-- `records::add_all` meets its contract: the check record, the fragments, the join.
 use mathlib.Core.Path.{sym, ap, ◌∙◌}
 use mathlib.Core.List.{List}
 use Prim.Native.Nat.{ℕ, ◌-◌, ◌*◌, ◌%◌}

@@ -1,3 +1,4 @@
+-- `records::add_answer` meets its contract: the join's answer in a line.
 use mathlib.Core.Path.{ap, ◌∙◌}
 use mathlib.Core.List.{List}
 use Prim.Native.Nat.{ℕ, ◌+◌}

@@ -1,3 +1,4 @@
+-- `records::add_fragments` meets its contract: the lines of the first records are written.
 use native.Mathlib.Omega.{arith}
 use Rattle.tell.proofs.Shown.{lines_none, lines_next, lines_short}
 use Rattle.tell.proofs.records.add_fragments.Goals as goal

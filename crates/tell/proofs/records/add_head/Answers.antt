@@ -1,3 +1,4 @@
+-- `records::add_head` meets its contract: the fields that stand in the check record.
 use mathlib.Core.Path.{ap, ◌∙◌}
 use mathlib.Core.List.{List}
 use Prim.Native.Nat.{ℕ, ◌+◌}

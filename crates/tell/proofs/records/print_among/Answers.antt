@@ -1,3 +1,4 @@
+-- `records::print_among` meets its contract: the body's part of the records, and its fingerprint.
 use Rattle.tell.proofs.Shown.{print_is}
 use Rattle.tell.proofs.records.print_among.Goals as goal
 

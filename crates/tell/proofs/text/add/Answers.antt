@@ -1,3 +1,4 @@
+-- `text::add` meets its contract: the bytes are put into the part from the place on.
 use mathlib.Core.Path.{refl}
 use Rattle.tell.proofs.Adding.{put_placed}
 use Rattle.tell.proofs.text.add.Goals as goal

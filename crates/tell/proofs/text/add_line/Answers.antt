@@ -1,3 +1,4 @@
+-- `text::add_line` meets its contract: the mark, the numbers, the ending.
 use native.Mathlib.Omega.{arith}
 use Rattle.tell.proofs.Adding.{grown_three}
 use Rattle.tell.proofs.Decimals.{spelled, spelled_length}

@@ -1,3 +1,4 @@
+-- `text::add_number` meets its contract: a space, and behind it the digits.
 use mathlib.Core.Path.{ap, ◌∙◌}
 use mathlib.Core.List.{List, [], ◌∷◌}
 use Prim.Native.Nat.{ℕ, ◌+◌}

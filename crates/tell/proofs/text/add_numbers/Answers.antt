@@ -1,3 +1,4 @@
+-- `text::add_numbers` meets its contract: the first k numbers are written.
 use native.Mathlib.Omega.{arith}
 use Rattle.tell.proofs.Decimals.{spelled_short, grown_start, grown_number}
 use Rattle.tell.proofs.text.add_numbers.Goals as goal

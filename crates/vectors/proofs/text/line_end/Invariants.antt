@@ -1,3 +1,4 @@
+-- `vectors::text::line_end` meets its contract: it stays within the text. Assumes nothing.
 use Rattle.std.proofs.Common.{◌-◌, ◌≤◌, length}
 use Rattle.vectors.proofs.text.line_end.Given as goal
 

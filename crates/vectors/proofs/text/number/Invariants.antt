@@ -1,3 +1,4 @@
+-- `vectors::text::number` meets its contract: the number stays small. Assumes nothing.
 use Rattle.std.proofs.Common.{◌-◌, ◌≤◌, length}
 use Rattle.vectors.proofs.text.number.Given as goal
 

@@ -1,3 +1,4 @@
+-- `vectors::text::unhex` meets its contract: it stays within the text and the bytes to fill. Assumes nothing.
 use Rattle.std.proofs.Common.{◌≡◌, ◌-◌, ◌*◌, ◌≤◌, length}
 use Rattle.vectors.proofs.text.unhex.Given as goal
 
