@@ -12,9 +12,7 @@ pub fn nodal(points: &[u8], t: u8) -> u8
 {
     let at = places();
     let mut product = 0;
-    let mut k = points.len();
-    while k > 0 {
-        k -= 1;
+    for k in (0..points.len()).rev() {
         product = grown(&at, product, plus(t, points[k]));
     }
     settled(product)
@@ -26,9 +24,7 @@ pub fn spread_but(points: &[u8], p: u8, t: u8) -> u8
 {
     let at = places();
     let mut product = 0;
-    let mut k = points.len();
-    while k > 0 {
-        k -= 1;
+    for k in (0..points.len()).rev() {
         let q = points[k];
         if p != q {
             product = grown(&at, product, plus(t, q));

@@ -7,7 +7,3 @@ use Rattle.field.proofs.many.nodal.Given as goal
 
 abbrev pub invariant-loop-k : goal.invariant-loop-k
 invariant-loop-k l = (l.k ≤ length l.points) × (l.product ≤ 255) × (at_place l.product ≡ nodal bytes (drop l.k l.points) l.t)
-
--- proposed from the loop's first test
-abbrev pub decreases-loop-k : goal.decreases-loop-k
-decreases-loop-k l = l.k

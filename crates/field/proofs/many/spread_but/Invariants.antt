@@ -7,7 +7,3 @@ use Rattle.field.proofs.many.spread_but.Given as goal
 
 abbrev pub invariant-loop-k : goal.invariant-loop-k
 invariant-loop-k l = (l.k ≤ length l.points) × (l.product ≤ 255) × (at_place l.product ≡ spread_but bytes (drop l.k l.points) l.p l.t)
-
--- proposed from the loop's first test
-abbrev pub decreases-loop-k : goal.decreases-loop-k
-decreases-loop-k l = l.k
