@@ -3,7 +3,6 @@ use mathlib.Core.Path.{refl, ap₂, ◌∙◌}
 use native.Mathlib.Omega.{arith}
 use Rattle.field.specs.Byte.{times}
 use Rattle.field.proofs.Added.{added_none, add_turn, add_end}
-use borrow.Author.Tests.{ltb-true, ltb-false}
 use Rattle.field.proofs.adding.add_products.Goals as goal
 
 pub returns-then-by-eq0 : goal.returns-then-by-eq0
