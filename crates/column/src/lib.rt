@@ -61,7 +61,7 @@ impl Column {
     }
 
     // Times x, where x^3 is x + 1.
-    #[tactic(auto, unfolding(crate::specs::Column::shifted))]
+    #[tactic(auto, unfolding(crate::specs::Column::shifted), using(field::proofs::Sum::plus_comm))]
     pub fn shifted(self) -> Column
         ensures { result ≡ column.shifted self }
     {
