@@ -2,6 +2,8 @@
 -- Assumes nothing.
 use Rattle.std.proofs.Common.{◌≡◌, ℕ, zero, suc, ◌+◌, ◌-◌, ◌*◌, ◌/◌, ◌%◌, ◌^◌, ◌<◌, ◌≤◌, List, [], ◌∷◌, ◌++◌, length, get_or, take, set, replicate, sym, refl, ap, ◌∙◌, ap₂, append_assoc, add-sub_of_le, add-one, arith, length-append, take_all, take-suc, take-suc-set, get_or-append-add}
 use native.Mathlib.Nat.{mul-div-mul_left}
+use Rattle.std.proofs.Math.Nat.{div-one}
+use Rattle.std.specs.Int.{w32, to_be_bytes}
 use lib.ListN.{length-replicate, get_or-replicate, get_or-append}
 use Rattle.sha256.specs.Fips180.{bytes, padding}
 
@@ -78,5 +80,10 @@ filled out e i x h k same byte =
 
 pub all_filled : (out e : List ℕ) (i : ℕ) → i ≡ length out → length out ≡ length e → take i out ≡ take i e → out ≡ e
 all_filled out e i full same front = sym (take_all i out (omega arith)) ∙ front ∙ take_all i e (omega arith)
+
+-- a word as four bytes, in the definition's words
+pub four : (x : ℕ) (l : List ℕ) → l ≡ to_be_bytes w32 x → l ≡ bytes 4 x
+unfolding bytes
+four x l e = e ∙ ap (λ (y : ℕ). x / 16777216 % 256 ∷ x / 65536 % 256 ∷ x / 256 % 256 ∷ y % 256 ∷ []) (sym (div-one x))
 
 pub ruleset ended = (length_ended)
