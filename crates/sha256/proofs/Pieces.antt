@@ -8,17 +8,6 @@ use Rattle.sha256.specs.declared.State.{State}
 use Rattle.sha256.specs.Fips180.{padding, padded, block, H⁰, next, Hⁱ, Hᴺ, digest, SHA_256}
 use Rattle.sha256.specs.Hash.{finished}
 
--- the part that is lent for block i
-pub lent : (m : List ℕ) (i : ℕ) → take (64 * i + 64 - 64 * i) (drop (64 * i) m) ≡ block m i
-unfolding block
-lent m i =
-    let size : 64 * i + 64 - 64 * i ≡ 64 = omega arith in
-    ap (λ (k : ℕ). take k (drop (64 * i) m)) size
-
-pub length_block : (m : List ℕ) (i : ℕ) → 64 * (i + 1) ≤ length m → length (block m i) ≡ 64
-unfolding block
-length_block m i h = length-take-le 64 (drop (64 * i) m) (rw length-drop (omega arith))
-
 -- one block more
 pub absorbed_one : (s v : State) (m : List ℕ) (i : ℕ) → v ≡ Hⁱ i s m → next v (block m i) ≡ Hⁱ (i + 1) s m
 unfolding Hⁱ

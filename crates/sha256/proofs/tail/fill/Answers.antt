@@ -8,5 +8,5 @@ use Rattle.sha256.proofs.tail.fill.Goals as goal
 pub returns : goal.returns
 unfolding padding
 returns c =
-    let zeros : length c.split_at_mut-zeros.result.0.now ≡ (119 - c.args.l % 64) % 64 = omega (arith, length_ended c.args.rest.now c.args.l c.requires.rest_len) in
+    let zeros : length c.split_at_mut-zeros.result.0.now ≡ (119 - c.args.l % 64) % 64 = omega (arith, length_ended c.args.rest.now c.args.l) in
     grind (arith, common_steps)
