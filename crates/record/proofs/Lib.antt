@@ -1,5 +1,6 @@
 pub mod Accepted
 pub mod Buffer
+pub mod Bytes
 pub mod Counts
 pub mod Fields
 pub mod Front
