@@ -29,7 +29,8 @@ fn front(mark: [u8; 3], version: u16, number: u64) -> [u8; 13]
     bytes
 }
 
-#[tactic(auto, unfolding(crate::specs::Records::check_head), using(std::proofs::lemmas::Grind::common_steps, crate::proofs::Bytes::four_digits, crate::proofs::Front::front_then))]
+// The 22 bytes before the hashes: L at 13, m at 17, n, the seed column.
+#[tactic(auto, unfolding(crate::specs::Records::check_head), using(std::proofs::lemmas::Grind::common_steps, crate::proofs::Bytes::four_digits))]
 fn check_head(head: CheckHead) -> [u8; 22]
     ensures { result ≡ records.check_head head.version head.number head.length head.m head.n head.seed }
 {
@@ -41,7 +42,8 @@ fn check_head(head: CheckHead) -> [u8; 22]
     bytes
 }
 
-#[tactic(auto, unfolding(crate::specs::Records::fragment_head), using(std::proofs::lemmas::Grind::common_steps, crate::proofs::Bytes::four_digits, crate::proofs::Front::front_then))]
+// The 18 bytes before the body: the index at 13, F at 14.
+#[tactic(auto, unfolding(crate::specs::Records::fragment_head), using(std::proofs::lemmas::Grind::common_steps, crate::proofs::Bytes::four_digits))]
 fn fragment_head(head: FragmentHead) -> [u8; 18]
     ensures { result ≡ records.fragment_head head.version head.number head.index head.size }
 {
