@@ -14,14 +14,14 @@ use Rattle.algebra.proofs.Several.{all_both, all_more, in_more, in_last, distinc
 use Rattle.record.specs.Heads.{check_head_of}
 use Rattle.inspect.specs.Answer.{Answer}
 use Rattle.inspect.specs.Check.{checked}
-use Rattle.gather.specs.Gather.{Used, record_at, has_index, used}
+use Rattle.gather.specs.declared.Used.{Used}
+use Rattle.gather.specs.Gather.{record_at, has_index, used}
 
 abbrev pub indexes : List Used → List ℕ
 indexes us = map (λ u. u.index) us
 
 -- the test finds an index exactly where it stands
 pub index_found : (i : ℕ) (us : List Used) → has_index i us ≡ true → In i (indexes us)
-unfolding has_index
 index_found i [] e = absurd (false≢true e)
 index_found i (u ∷ us) e = go (eqb i u.index) refl e (index_found i us)
   where
@@ -30,7 +30,6 @@ index_found i (u ∷ us) e = go (eqb i u.index) refl e (index_found i us)
     go false h e later = inr (later e)
 
 pub index_missed : (i : ℕ) (us : List Used) → has_index i us ≡ false → All (λ j. i ≢ j) (indexes us)
-unfolding has_index
 index_missed i [] e = tt
 index_missed i (u ∷ us) e = go (eqb i u.index) refl e (index_missed i us)
   where
