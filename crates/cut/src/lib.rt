@@ -12,6 +12,7 @@ mod summary;
 ghost use Rattle.std.specs.Prelude.{◌≡◌};
 ghost use Rattle.cut.specs.Cut as cut;
 
+use record::WRITTEN_VERSION;
 pub use standard::{card_size, cut_standard};
 
 // A number of the table of what comes back, and how many bytes a card has to hold; beside a refusal 0.
@@ -50,4 +51,12 @@ pub fn cut(
         check,
     );
     0
+}
+
+// The body of record `index` among records that stand end to end, each with a body of `size` bytes; what of it is there, where they end before.
+pub fn body_among(size: u32, records: &[u8], index: u8) -> &[u8]
+    ensures { result.now ≡ cut.body_among size records.now index }
+{
+    let start = usize::from(index) * record::record_length(WRITTEN_VERSION, size);
+    bodies::part(records, start + record::body_place(WRITTEN_VERSION), size)
 }

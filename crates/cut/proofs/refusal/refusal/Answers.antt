@@ -26,7 +26,7 @@ pub overflow_cast-size : goal.overflow_cast-size
 overflow_cast-size c = omega (arith, c.body_length-size.ensures, body_length_fits (length c.args.block.now) c.args.m c.if-block-gt-LONGEST_BLOCK.false (counted c.args.m c.args.n (sym c.counts_fit.ensures ∙ c.if-not-counts_fit.false)).some)
 
 pub overflow_mul-n : goal.overflow_mul-n
-overflow_mul-n c = record { fits = place_fits c.args.n c.record_length.result (omega (arith, counted c.args.m c.args.n (sym c.counts_fit.ensures ∙ c.if-not-counts_fit.false))) (omega (arith, c.record_length.ensures, head_below written_version, c.body_length-size.ensures, body_length_fits (length c.args.block.now) c.args.m c.if-block-gt-LONGEST_BLOCK.false (counted c.args.m c.args.n (sym c.counts_fit.ensures ∙ c.if-not-counts_fit.false)).some)) }
+overflow_mul-n c = omega (arith, place_fits c.args.n c.record_length.result (omega (arith, counted c.args.m c.args.n (sym c.counts_fit.ensures ∙ c.if-not-counts_fit.false))) (omega (arith, c.record_length.ensures, head_below written_version, c.body_length-size.ensures, body_length_fits (length c.args.block.now) c.args.m c.if-block-gt-LONGEST_BLOCK.false (counted c.args.m c.args.n (sym c.counts_fit.ensures ∙ c.if-not-counts_fit.false)).some)))
 
 pub returns-then-fragments-n : goal.returns-then-fragments-n
 returns-then-fragments-n c = other_records c.args.m c.args.n c.args.seed c.args.block.now c.args.fragments.now c.args.check.now (sym c.counts_fit.ensures ∙ c.if-not-counts_fit.false) c.if-block-gt-LONGEST_BLOCK.false c.if-seed-gt-LARGEST_SEED.false _ _ c.body_length-size.ensures c.record_length.ensures c.if-fragments-n.true
