@@ -134,11 +134,12 @@ fn scheduled(w2: u32, w7: u32, w15: u32, w16: u32) -> u32
 fn turn(v: State, k: u32, w: u32) -> State
     ensures { result ≡ fips_turn v k w }
 {
-    let t1 =
-        v.h.wrapping_add(upper_sigma_1(v.e))
-            .wrapping_add(ch(v.e, v.f, v.g))
-            .wrapping_add(k)
-            .wrapping_add(w);
+    let t1 = v
+        .h
+        .wrapping_add(upper_sigma_1(v.e))
+        .wrapping_add(ch(v.e, v.f, v.g))
+        .wrapping_add(k)
+        .wrapping_add(w);
     let t2 = upper_sigma_0(v.a).wrapping_add(maj(v.a, v.b, v.c));
     State {
         a: t1.wrapping_add(t2),
