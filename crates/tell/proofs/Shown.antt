@@ -16,8 +16,7 @@ use Rattle.code.specs.Cutting.{body_length}
 use Rattle.column.specs.declared.Column.{Column}
 use Rattle.fingerprint.specs.Answer.{Fingerprinted, fingerprinted}
 use Rattle.cut.specs.Cut.{body_among}
-use Rattle.join.specs.declared.Joined.{Joined}
-use Rattle.join.specs.Join.{join_answer}
+use Rattle.join.specs.Join.{Joined, join_answer}
 use Rattle.record.specs.declared.CheckHead.{CheckHead}
 use Rattle.record.specs.Heads.{check_head_of}
 use Rattle.record.proofs.Buffer.{rest_lent}

@@ -1,13 +1,14 @@
 // The four kinds of line, each added to a text from a place on.
 ghost use Rattle.std.specs.Prelude.{◌≡◌, ◌++◌, ◌∷◌, [], ◌+◌, ◌<◌, ◌≤◌};
 ghost use lib.ListN.{length};
+ghost use Rattle.join.specs.Join as joining;
 ghost use Rattle.tell.specs.Lines as lines;
 ghost use Rattle.tell.specs.Parts.{placed};
 
 use crate::text::add_line;
 use column::Column;
-use join::Joined;
 use record::{CHECK_MARK, CheckHead, FRAGMENT_MARK};
+use refusal::{Counts, Refusal};
 
 const JOIN_MARK: [u8; 3] = [b'D', b'E', b'C'];
 
@@ -52,13 +53,24 @@ pub(crate) fn add_fragment(text: &mut [u8], at: usize, index: u8, size: u32, pri
     )
 }
 
-pub(crate) fn add_join(text: &mut [u8], at: usize, joined: Joined, length: usize) -> usize
+pub(crate) fn add_join(text: &mut [u8], at: usize, joined: Result<Counts, Refusal>, length: usize) -> usize
     requires { at + 67 ≤ lib.ListN.length text.old }
-    ensures value { result ≡ at + lib.ListN.length (lines.join_line joined.number joined.read length) }
-    ensures text_after { text.new ≡ placed text.old at (lines.join_line joined.number joined.read length) }
+    ensures value { result ≡ at + lib.ListN.length (lines.join_line (joining.numbers_of joined).number (joining.numbers_of joined).read length) }
+    ensures text_after { text.new ≡ placed text.old at (lines.join_line (joining.numbers_of joined).number (joining.numbers_of joined).read length) }
 {
-    let numbers = [joined.number as u64, joined.read, length as u64];
+    let (number, read) = number_and_read(joined);
+    let numbers = [u64::from(number), read, length as u64];
     add_line(text, at, JOIN_MARK, &numbers, &END)
+}
+
+// A join's number, and how many records it read.
+fn number_and_read(joined: Result<Counts, Refusal>) -> (u32, u64)
+    ensures { result ≡ ((joining.numbers_of joined).number, (joining.numbers_of joined).read) }
+{
+    match joined {
+        Ok(counts) => (0, counts.read),
+        Err(refusal) => (refusal.number(), refusal.values().0),
+    }
 }
 
 // A space, the six digits of a column, and the line's end.
