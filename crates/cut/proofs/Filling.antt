@@ -1,18 +1,16 @@
 -- Parts of one length, written one after the other into a buffer, and read back from it.
 use mathlib.Core.Path.{◌≡◌, refl, sym, ap, ap₂, ◌∙◌}
-use mathlib.Core.List.{List, [], ◌++◌, append_assoc, append-nil}
-use Prim.Native.Nat.{ℕ, zero, suc, ◌+◌, ◌-◌, ◌*◌, ◌≤◌, ◌<◌}
+use mathlib.Core.List.{List, [], ◌++◌}
+use Prim.Native.Nat.{ℕ, zero, suc, ◌+◌, ◌*◌, ◌≤◌, ◌<◌}
 use native.Mathlib.Nat.{zero-mul, suc-mul, add_comm, mul-le-mul_right, not-suc-le-zero, le_of_suc-le-suc}
 use native.Mathlib.Numerals.{add-one}
 use native.Mathlib.Omega.{arith}
-use borrow.Rule.Slice.PartMut.{mid_of, put_mid, mid_len}
-use lib.ListN.{length, take, drop, length-append, length-drop, drop_of_length-le}
+use borrow.Rule.Slice.PartMut.{put_mid}
+use lib.ListN.{length, take, drop}
 use Rattle.std.proofs.lemmas.Slice.{take-put_mid}
 use lib.Seq.{take_at, drop_at, drop-drop}
 use Rattle.algebra.specs.Several.{listed, end_to_end}
-use Rattle.record.specs.Put.{put}
-use Rattle.record.proofs.Buffer.{put_fits}
-use Rattle.algebra.proofs.Several.{end_to_end_more, end_to_end_length}
+use Rattle.algebra.proofs.Several.{end_to_end_more}
 
 -- part k of parts of one length ends within the first n
 pub within : (size n k : ℕ) → k < n → k * size + size ≤ n * size

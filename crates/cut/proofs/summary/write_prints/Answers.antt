@@ -1,6 +1,5 @@
 -- `summary::write_prints` meets its contract: three bytes for each of the first bodies.
-use mathlib.Core.Path.{refl, ap, ◌∙◌}
-use Prim.Native.Nat.{◌+◌, ◌*◌}
+use mathlib.Core.Path.{ap, ◌∙◌}
 use native.Mathlib.Omega.{arith}
 use Rattle.code.proofs.Walks.{all_small}
 use Rattle.record.specs.Layout.{column_bytes}
