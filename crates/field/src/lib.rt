@@ -3,6 +3,7 @@
 // table once. No public function asks anything of its caller.
 #![tactic(auto)]
 
+pub mod stated;
 mod adding;
 mod many;
 mod tables;
