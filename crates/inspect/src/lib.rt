@@ -3,6 +3,7 @@
 #![tactic(auto)]
 
 mod agree;
+pub mod stated;
 
 ghost use Rattle.std.specs.Prelude.{◌≡◌, ◌+◌};
 ghost use Rattle.inspect.specs.Answer.{answer};
