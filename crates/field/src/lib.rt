@@ -3,9 +3,9 @@
 // table once. No public function asks anything of its caller.
 #![tactic(auto)]
 
-pub mod stated;
 mod adding;
 mod many;
+pub mod stated;
 mod tables;
 
 ghost use Rattle.std.specs.Prelude.{◌≡◌};

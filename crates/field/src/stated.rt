@@ -7,5 +7,4 @@ ghost use Rattle.field.specs.Stated.{ByteLaws};
 /// Sum and product are those of FIPS 197, sections 4.1 and 4.2.
 pub fn byte_laws()
     ensures { ByteLaws }
-{
-}
+{}
