@@ -2,6 +2,8 @@
 // for of a body. No public function asks anything of its caller.
 #![tactic(auto)]
 
+pub mod stated;
+
 ghost use Rattle.std.specs.Prelude.{◌≡◌, ◌+◌, ◌≤◌, ◌<◌, length, get_or, drop};
 ghost use Rattle.algebra.specs.Several.{listed};
 ghost use Rattle.field.specs.Byte.{plus};

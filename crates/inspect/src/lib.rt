@@ -4,6 +4,7 @@
 
 mod agree;
 mod refused;
+pub mod stated;
 
 ghost use Rattle.std.specs.Prelude.{◌≡◌, ◌+◌};
 ghost use Rattle.inspect.specs.Answer.{answer};
