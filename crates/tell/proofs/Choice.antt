@@ -1,5 +1,5 @@
 -- Which text is told: each refusal, and the lines of a cut that is not refused.
-use mathlib.Core.Path.{◌≡◌, sym, ap, ap₂, ◌∙◌}
+use mathlib.Core.Path.{◌≡◌, refl, sym, ap, ap₂, ◌∙◌}
 use mathlib.Core.Bool.{Bool, ◌&&◌, cond}
 use mathlib.Core.List.{List, ◌++◌}
 use Prim.Native.Nat.{ℕ, ◌+◌, ◌-◌, ◌*◌, ◌^◌, ◌<◌, ◌≤◌}
@@ -24,9 +24,8 @@ use Rattle.record.proofs.ReadBack.{check_back}
 use Rattle.cut.specs.Cut.{body_of, fragments, check_of, check, buffers_fit, cut_number, held}
 use Rattle.cut.proofs.Records.{body_back}
 use Rattle.tell.specs.Lines.{refusal_line, check_line, fragment_line, join_line}
-use Rattle.tell.specs.Parts.{placed, print_among, fragment_lines, head_line, answer_line, shown}
+use Rattle.tell.specs.Parts.{print_among, fragment_lines, head_line, answer_line, shown}
 use Rattle.tell.specs.Told.{cut_refusal, joined, lines, told, printed}
-use Rattle.tell.proofs.Shown.{head_is}
 
 -- only the lengths of the two buffers count
 buffers_same : (m n : ℕ) (block a b c d : List ℕ) → length a ≡ length c → length b ≡ length d → buffers_fit m n block a b ≡ buffers_fit m n block c d
@@ -51,7 +50,8 @@ module _ (m n seed number : ℕ) (block : List ℕ) where
   head_back hn hL = sym (check_back written_version number (length block) m n (from_seed seed) _ (lit< tt) hn hL)
 
   head_lines : number < 2 ^ 64 → length block < 2 ^ 32 → head_line (check m n seed number block) ≡ check_line written_version number (length block) m n
-  head_lines hn hL = sym (head_is (check m n seed number block) _ (head_back hn hL))
+  unfolding head_line
+  head_lines hn hL = rw (sym (head_back hn hL)) refl
 
   body_lines : fragment_lines n (body_length (length block) m) seed (fragments m n number block)
       ≡ end_to_end (listed n (λ i. fragment_line i (body_length (length block) m) (fingerprint_at (from_seed seed) (body_of m block i))))
@@ -95,7 +95,4 @@ printed_told input seed number some h es en =
     (λ i. told (get_or input 0 0) (get_or input 1 0) (es i) (en i) (rest_lent input 13 i))
     ∙ grind (arith, nat_tests)
 
--- bytes placed at a text's start
-pub at_start : (text bytes next : List ℕ) (end : ℕ) → end ≡ length bytes → next ≡ placed text 0 bytes → next ≡ bytes ++ drop end text
-unfolding placed
-at_start text bytes next end ee e = e ∙ ap (λ (k : ℕ). bytes ++ drop k text) (zero-add (length bytes) ∙ sym ee)
+pub ruleset printing = (printed_short, printed_long, printed_told)
