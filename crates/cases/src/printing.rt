@@ -1,5 +1,6 @@
 // Fingerprints: the worked ones, and each refusal on both sides of its bound.
 use crate::line;
+use column::Column;
 use std::io;
 
 pub(crate) fn run(rt: &HostRuntime) -> io::Result<()> {
@@ -21,13 +22,16 @@ pub(crate) fn run(rt: &HostRuntime) -> io::Result<()> {
 }
 
 fn print(rt: &HostRuntime, seed: u32, body: &[u8]) -> io::Result<()> {
-    let got = fingerprint::fingerprint(seed, body);
+    let (number, column) = match fingerprint::fingerprint(seed, body) {
+        Ok(column) => (0, column),
+        Err(refusal) => (refusal.number(), Column::ZERO),
+    };
     line::text(rt, "fingerprint at seed, of length")?;
     line::number(rt, seed as u64)?;
     line::number(rt, body.len() as u64)?;
     line::text(rt, ":")?;
-    line::number(rt, got.number as u64)?;
-    line::column(rt, got.column)?;
+    line::number(rt, u64::from(number))?;
+    line::column(rt, column)?;
     line::end(rt)?;
     Ok(())
 }

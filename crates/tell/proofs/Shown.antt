@@ -14,8 +14,10 @@ use Rattle.algebra.specs.Several.{listed, end_to_end}
 use Rattle.algebra.proofs.Several.{end_to_end_more}
 use Rattle.code.specs.Cutting.{body_length}
 use Rattle.column.specs.declared.Column.{Column}
-use Rattle.fingerprint.specs.declared.Fingerprinted.{Fingerprinted}
-use Rattle.fingerprint.specs.Answer.{fingerprinted}
+use Rattle.std.specs.Prelude.{Result, Ok, Err}
+use Rattle.refusal.specs.declared.Refusal.{Refusal}
+use Rattle.refusal.proofs.Outcome.{not_none}
+use Rattle.fingerprint.specs.Answer.{Fingerprinted, numbers_of, fingerprinted}
 use Rattle.cut.specs.Cut.{body_among}
 use Rattle.cut.proofs.Among.{among_part}
 use Rattle.join.specs.declared.Joined.{Joined}
@@ -46,6 +48,10 @@ fragment_short : (index F : ℕ) (print : Column) → length (fragment_line inde
 unfolding fragment_line line fields hex
 fragment_short index F print = simp length-append (omega (arith, decimal_short index, decimal_short F))
 
+given : (r : Result Column Refusal) {u : Column} → numbers_of r ≡ record { number = 0; column = u } → r ≡ Ok u
+given (Ok u) e = ap (λ (x : Fingerprinted). Ok x.column) e
+given (Err refusal) e = absurd (not_none refusal (ap (λ (x : Fingerprinted). x.number) e))
+
 module _ (F seed : ℕ) (records : List ℕ) where
   lines_suc : (k : ℕ) → fragment_lines (suc k) F seed records ≡ fragment_lines k F seed records ++ fragment_line k F (print_among F seed records k)
   unfolding fragment_lines
@@ -75,15 +81,16 @@ module _ (F seed : ℕ) (records : List ℕ) where
       length-take-le F (drop (i * record_length written_version F + body_place written_version) records)
       (omega (arith, length-drop (i * record_length written_version F + body_place written_version) records))
 
-  -- the fingerprint of a body that is not refused
-  pub print_is : (i whole place : ℕ) (p : Fingerprinted) → whole ≡ record_length written_version F → place ≡ body_place written_version
+  -- the fingerprint of a body is not refused
+  pub print_is : (i whole place : ℕ) (r : Result Column Refusal) → whole ≡ record_length written_version F → place ≡ body_place written_version
       → i * record_length written_version F + record_length written_version F ≤ length records → F ≤ longest_body → F % 3 ≡ 0 → seed ≤ largest_seed
-      → p ≡ fingerprinted seed (take (i * whole + place + F - (i * whole + place)) (drop (i * whole + place) records))
-      → p.column ≡ print_among F seed records i
+      → numbers_of r ≡ fingerprinted seed (take (i * whole + place + F - (i * whole + place)) (drop (i * whole + place) records))
+      → r ≡ Ok (print_among F seed records i)
   unfolding fingerprinted print_among
-  print_is i whole place p ew ep within short columns known e =
-      ap (λ (x : Fingerprinted). x.column) (e ∙ ap (fingerprinted seed) (among_part F records i whole place ew ep))
-      ∙ simp (le-ltb longest_body (length body) (omega (arith, long)), le-ltb largest_seed seed known, eq-eqb (length body % 3) 0 (ap (λ (k : ℕ). k % 3) long ∙ columns))
+  print_is i whole place r ew ep within short columns known e =
+      given r
+      (e ∙ ap (fingerprinted seed) (among_part F records i whole place ew ep)
+      ∙ simp (le-ltb longest_body (length body) (omega (arith, long)), le-ltb largest_seed seed known, eq-eqb (length body % 3) 0 (ap (λ (k : ℕ). k % 3) long ∙ columns)))
     where
       body : List ℕ
       body = body_among F records i

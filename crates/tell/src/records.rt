@@ -11,7 +11,7 @@ use crate::lines::{add_check, add_fragment, add_join};
 use crate::text::Text;
 use column::Column;
 
-// The fingerprint of the body of record `index`, where it stands.
+// The fingerprint of the body of record `index`, where it stands; at this size and seed it is never refused.
 fn print_among(size: u32, seed: u32, fragments: &[u8], index: u8) -> Column
     requires size_le_longest_body { (size ≤ longest_body) × (size % 3 ≡ 0) × (seed ≤ largest_seed) }
     requires size_in_bounds { index * layout.record_length layout.written_version size + layout.record_length layout.written_version size ≤ length fragments.now }
@@ -20,8 +20,7 @@ fn print_among(size: u32, seed: u32, fragments: &[u8], index: u8) -> Column
     let step = record::record_length(record::WRITTEN_VERSION, size);
     let start = usize::from(index) * step + record::body_place(record::WRITTEN_VERSION);
     let end = start + size as usize;
-    let print = fingerprint::fingerprint(seed, &fragments[start..end]);
-    print.column
+    fingerprint::fingerprint(seed, &fragments[start..end]).unwrap()
 }
 
 // A line for each of n records.
