@@ -28,17 +28,10 @@ use Rattle.tell.specs.Parts.{print_among, fragment_lines, head_line, answer_line
 use Rattle.tell.specs.Told.{cut_refusal, joined, lines, told, printed}
 
 -- only the lengths of the two buffers count
-buffers_same : (m n : ℕ) (block a b c d : List ℕ) → length a ≡ length c → length b ≡ length d → buffers_fit m n block a b ≡ buffers_fit m n block c d
-unfolding buffers_fit
-buffers_same m n block a b c d e f =
-    ap₂ (λ (x y : ℕ). eqb x (n * record_length written_version (body_length (length block) m)) && eqb y (check_length written_version m n)) e f
-
 pub refused_is : (m n seed : ℕ) (block a b : List ℕ) → length a ≡ n * record_length written_version (body_length (length block) m)
     → length b ≡ check_length written_version m n → cut_number m n seed block a b ≡ cut_refusal m n seed block
-unfolding cut_refusal cut_number
-refused_is m n seed block a b ea eb =
-    ap (λ (fit : Bool). cond (counts_fit m n) (cond (leb (length block) longest_block) (cond (leb seed largest_seed) (cond fit 0 4) 3) 2) 1)
-    (buffers_same m n block a b _ _ (ea ∙ sym (length-replicate _ 0)) (eb ∙ sym (length-replicate _ 0)))
+unfolding cut_refusal cut_number buffers_fit
+refused_is m n seed block a b ea eb = rw (ea, eb, length-replicate, length-replicate) refl
 
 pub written : (number : ℕ) (bytes before : List ℕ) → number ≡ 0 → held number bytes before ≡ bytes
 written number bytes before e = simp (eq-eqb number 0 e)

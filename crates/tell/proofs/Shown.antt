@@ -9,6 +9,7 @@ use lib.ListN.{length, take, drop, replicate, length-append, length-drop}
 use lib.Seq.{length-take-le}
 use borrow.Rule.Slice.PartMut.{mid_of}
 use borrow.Author.Tests.{le-ltb, eq-eqb}
+use Rattle.std.proofs.lemmas.List.{take-replicate}
 use Rattle.limits.specs.Limits.{longest_body, largest_seed}
 use Rattle.algebra.specs.Several.{listed, end_to_end}
 use Rattle.algebra.proofs.Several.{end_to_end_more}
@@ -29,12 +30,6 @@ use Rattle.record.specs.Layout.{written_version, record_length, body_place, chec
 use Rattle.tell.specs.Lines.{decimal, hex, fields, line, join_mark, check_line, fragment_line, join_line}
 use Rattle.tell.specs.Parts.{print_among, fragment_lines, head_line, answer_line, shown}
 use Rattle.tell.proofs.Decimals.{decimal_short, spelled, spelled_short}
-
--- the first of many zero bytes
-zeros : (n k : ℕ) → n ≤ k → take {A = ℕ} n (replicate k 0) ≡ replicate n 0
-zeros zero k h = refl
-zeros (suc n) zero h = absurd (not-suc-le-zero h)
-zeros (suc n) (suc k) h = ap (λ (l : List ℕ). 0 ∷ l) (zeros n k (le_of_suc-le-suc h))
 
 line_length : (mark ns : List ℕ) → length (line mark (map decimal ns)) ≤ length mark + (21 * length ns + 1)
 unfolding line
@@ -97,13 +92,6 @@ module _ (F seed : ℕ) (records : List ℕ) where
 
       long : length body ≡ F
       long = among_length i within
-
--- what a join into zero bytes answers
-pub answer_is : (number L : ℕ) (check records : List ℕ) (j : Joined) → L ≤ 512 → j ≡ join_answer number check records (take L (replicate 512 0))
-    → join_line j.number j.read L ≡ answer_line number L check records
-unfolding answer_line
-answer_is number L check records j h e =
-    ap (λ (x : Joined). join_line x.number x.read L) (e ∙ ap (join_answer number check records) (zeros L 512 h))
 
 pub columns_whole : (L m : ℕ) → body_length L m % 3 ≡ 0
 unfolding body_length

@@ -15,7 +15,6 @@ fn add(text: &mut Text, bytes: &[u8])
 }
 
 // A space and a number.
-#[tactic(auto, using(crate::proofs::Decimals::decimal_is))]
 fn add_number(text: &mut Text, number: u64)
     requires { length text.old.items + 21 ≤ 16384 }
     ensures { text.new.items ≡ text.old.items ++ (32 ∷ lines.decimal number) }

@@ -1,7 +1,9 @@
 -- `records::add_answer` meets its contract: the join's answer in a line.
-use Rattle.std.proofs.Common.{◌++◌, ap, ◌∙◌}
-use Rattle.tell.proofs.Shown.{answer_is}
+use Rattle.std.proofs.Common.{refl}
+use Rattle.std.proofs.lemmas.List.{take-replicate}
+use Rattle.tell.specs.Parts.{answer_line}
 use Rattle.tell.proofs.records.add_answer.Goals as goal
 
 pub returns : goal.returns
-returns c = c.add_join.ensures ∙ ap (λ l. c.args.text.now.items ++ l) (answer_is c.args.number c.args.length c.args.check.now c.args.records.now c.join-joined.result c.requires.1 c.join-joined.ensures.value)
+unfolding answer_line
+returns c = rw (c.add_join.ensures, c.join-joined.ensures.value, take-replicate c.args.length 512 0 c.requires.1) refl
