@@ -1,5 +1,6 @@
 // Cuts: each refusal on both sides of its bound, the order of the refusals, and the standard setting.
 use crate::line;
+use refusal::Refusal;
 use std::io;
 
 pub(crate) fn run(rt: &HostRuntime) -> io::Result<()> {
@@ -90,7 +91,7 @@ fn cut(
     if length <= block.len() {
         if records <= fragments.len() {
             if check <= summary.len() {
-                let number = cut::cut(
+                let answer = cut::cut(
                     m,
                     n,
                     seed,
@@ -100,7 +101,7 @@ fn cut(
                     &mut summary[0..check],
                 );
                 asked(rt, m, n, seed, length, records, check)?;
-                told(rt, number, fragments[0], summary[0])?;
+                told(rt, answer, fragments[0], summary[0])?;
             }
         }
     }
@@ -126,9 +127,13 @@ fn asked(
     Ok(())
 }
 
-fn told(rt: &HostRuntime, number: u32, first: u8, second: u8) -> io::Result<()> {
+fn told(rt: &HostRuntime, answer: Result<(), Refusal>, first: u8, second: u8) -> io::Result<()> {
+    let number = match answer {
+        Ok(()) => 0,
+        Err(refusal) => refusal.number(),
+    };
     line::text(rt, ":")?;
-    line::number(rt, number as u64)?;
+    line::number(rt, u64::from(number))?;
     line::byte(rt, first)?;
     line::byte(rt, second)?;
     line::end(rt)?;
@@ -136,12 +141,15 @@ fn told(rt: &HostRuntime, number: u32, first: u8, second: u8) -> io::Result<()> 
 }
 
 fn card_size(rt: &HostRuntime, length: u64) -> io::Result<()> {
-    let got = cut::card_size(length);
+    let (number, size) = match cut::card_size(length) {
+        Ok(size) => (0, size),
+        Err(refusal) => (refusal.number(), 0),
+    };
     line::text(rt, "card size for L")?;
     line::number(rt, length)?;
     line::text(rt, ":")?;
-    line::number(rt, got.number as u64)?;
-    line::number(rt, got.size)?;
+    line::number(rt, u64::from(number))?;
+    line::number(rt, size)?;
     line::end(rt)?;
     Ok(())
 }
@@ -151,7 +159,7 @@ fn standard(rt: &HostRuntime, records: usize) -> io::Result<()> {
     let mut fragments = [0xeeu8; 252];
     let mut summary = [0xeeu8; 430];
     if records <= fragments.len() {
-        let number = cut::cut_standard(
+        let answer = cut::cut_standard(
             0,
             7,
             &[1, 1, 1, 1, 1, 1],
@@ -161,7 +169,7 @@ fn standard(rt: &HostRuntime, records: usize) -> io::Result<()> {
         line::text(rt, "cut in the standard setting, L, buffers 6")?;
         line::number(rt, records as u64)?;
         line::number(rt, 430)?;
-        told(rt, number, fragments[0], summary[0])?;
+        told(rt, answer, fragments[0], summary[0])?;
     }
     Ok(())
 }

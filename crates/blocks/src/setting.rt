@@ -15,7 +15,8 @@ pub(crate) fn cut(m: u32, check_length: usize) -> Setting {
     let mut check = [0u8; 162];
     let mut records = [0u8; 105];
     if check_length <= check.len() {
-        cut::cut(
+        // refused with another check_length: the records are then zero bytes
+        let _ = cut::cut(
             m,
             4,
             256,

@@ -4,7 +4,6 @@
 
 mod bytes;
 mod coding;
-mod line;
 mod printing;
 
 use std::io;
@@ -12,6 +11,5 @@ use std::io;
 fn main(rt: HostRuntime) -> io::Result<()> {
     bytes::run(&rt)?;
     coding::run(&rt)?;
-    printing::run(&rt)?;
-    Ok(())
+    printing::run(&rt)
 }

@@ -1,7 +1,7 @@
 -- The check record from the bodies where they stand: each fingerprint, and the three parts of the record.
 use mathlib.Core.Path.{◌≡◌, ap, ap₂, ◌∙◌}
 use mathlib.Core.List.{List, [], ◌∷◌}
-use Prim.Native.Nat.{ℕ, zero, suc, ◌+◌, ◌-◌, ◌*◌, ◌<◌, ◌≤◌}
+use Prim.Native.Nat.{ℕ, zero, suc, ◌+◌, ◌*◌, ◌<◌, ◌≤◌}
 use native.Mathlib.Omega.{arith}
 use lib.ListN.{take, drop}
 use Rattle.algebra.specs.Several.{All}
@@ -23,12 +23,10 @@ all_drop P (suc n) (a ∷ l) h = all_drop P n l h.1
 
 module _ (F : ℕ) (records : List ℕ) (i : ℕ) where
   -- where it stands
-  pub among_part : (whole place : ℕ) → whole ≡ record_length written_version F → place ≡ body_place written_version
-      → take (i * whole + place + F - (i * whole + place)) (drop (i * whole + place) records) ≡ body_among F records i
+  pub among_part : (j whole place at : ℕ) → j ≡ i → whole ≡ record_length written_version F → place ≡ body_place written_version → at ≡ j * whole + place
+      → take F (drop at records) ≡ body_among F records i
   unfolding body_among
-  among_part whole place ew ep =
-      ap₂ (λ (k j : ℕ). take k (drop j records)) (let e : i * whole + place + F - (i * whole + place) ≡ F = omega arith in e)
-      (ap₂ (λ (x y : ℕ). i * x + y) ew ep)
+  among_part j whole place at ej ew ep ea = cc
 
   among_small : All (λ n. n < 256) records → All (λ n. n < 256) (body_among F records i)
   unfolding body_among

@@ -9,6 +9,7 @@ ghost use Rattle.sha256.specs.Fips180.{SHA_256};
 ghost use Rattle.record.specs.Layout as layout;
 ghost use Rattle.cut.specs.Cut as cut;
 
+use crate::body_among;
 use column::Column;
 use record::{CheckHead, WRITTEN_VERSION};
 
@@ -77,15 +78,4 @@ fn write_prints(out: &mut [u8], m: u8, size: u32, y: Column, fragments: &[u8])
         record::put(&mut out[start..end], &[print.a, print.b, print.c]);
         j += 1;
     }
-}
-
-// The body of record `index`, where it stands.
-fn body_among(size: u32, fragments: &[u8], index: u8) -> &[u8]
-    requires { index * layout.record_length layout.written_version size + layout.record_length layout.written_version size ≤ length fragments.now }
-    ensures { result.now ≡ cut.body_among size fragments.now index }
-{
-    let start = (index as usize) * record::record_length(WRITTEN_VERSION, size)
-        + record::body_place(WRITTEN_VERSION);
-    let end = start + size as usize;
-    &fragments[start..end]
 }

@@ -15,7 +15,7 @@ use refusal::Refusal;
 pub use tail::finish;
 
 // A hash value: eight words, H0 to H7 of the standard, and its working variables in the turns of a block.
-#[derive(Clone, Copy)]
+#[derive(Clone, Copy, Debug, PartialEq, Eq)]
 pub struct State {
     pub a: u32,
     pub b: u32,

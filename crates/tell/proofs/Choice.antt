@@ -21,7 +21,7 @@ use Rattle.record.specs.Records.{check_record}
 use Rattle.record.specs.Heads.{check_head_of, counts_fit}
 use Rattle.record.proofs.Buffer.{rest_lent}
 use Rattle.record.proofs.ReadBack.{check_back}
-use Rattle.cut.specs.Cut.{body_of, fragments, check_of, check, buffers_fit, cut_number, held}
+use Rattle.cut.specs.Cut.{body_of, fragments, check_of, check, buffers_fit, cut_number}
 use Rattle.cut.proofs.Records.{body_back}
 use Rattle.tell.specs.Lines.{refusal_line, check_line, fragment_line, join_line}
 use Rattle.tell.specs.Parts.{print_among, fragment_lines, head_line, answer_line, shown}
@@ -32,9 +32,6 @@ pub refused_is : (m n seed : ℕ) (block a b : List ℕ) → length a ≡ n * re
     → length b ≡ check_length written_version m n → cut_number m n seed block a b ≡ cut_refusal m n seed block
 unfolding cut_refusal cut_number buffers_fit
 refused_is m n seed block a b ea eb = rw (ea, eb, length-replicate, length-replicate) refl
-
-pub written : (number : ℕ) (bytes before : List ℕ) → number ≡ 0 → held number bytes before ≡ bytes
-written number bytes before e = simp (eq-eqb number 0 e)
 
 module _ (m n seed number : ℕ) (block : List ℕ) where
   head_back : number < 2 ^ 64 → length block < 2 ^ 32
@@ -53,24 +50,18 @@ module _ (m n seed number : ℕ) (block : List ℕ) where
       ap end_to_end
       (listed_same n _ _ (λ i h. ap (λ (b : List ℕ). fragment_line i (body_length (length block) m) (fingerprint_at (from_seed seed) b)) (body_back m n number block i h)))
 
-module _ (m n seed number : ℕ) (block : List ℕ) (refused : ℕ) (e : refused ≡ cut_refusal m n seed block) where
-  pub told_refused : (refused ≡ 0 → ⊥) → refusal_line refused ≡ told m n seed number block
+  pub told_refused : (refused : ℕ) → (refused ≡ 0 → ⊥) → refused ≡ cut_refusal m n seed block → refusal_line refused ≡ told m n seed number block
   unfolding told
-  told_refused ne = ap refusal_line e ∙ sym (simp (ne_eqb (cut_refusal m n seed block) 0 (λ z. ne (e ∙ z))))
-
-  told_lines : refused ≡ 0 → lines m n seed number block ≡ told m n seed number block
-  unfolding told
-  told_lines z = sym (simp (eq-eqb (cut_refusal m n seed block) 0 (sym e ∙ z)))
+  told_refused refused some e = ap refusal_line e ∙ sym (simp (ne_eqb (cut_refusal m n seed block) 0 (λ z. some (e ∙ z))))
 
   -- the lines of what the cut wrote
-  pub told_shown : refused ≡ 0 → number < 2 ^ 64 → length block < 2 ^ 32 → (summary records : List ℕ) → summary ≡ check m n seed number block
-      → records ≡ fragments m n number block → shown m n seed number (length block) summary records ≡ told m n seed number block
-  unfolding shown lines answer_line joined
-  told_shown z hn hL summary records es er =
-      ap₂ (λ (c r : List ℕ). shown m n seed number (length block) c r) es er
-      ∙ ap₂ (λ (a b : List ℕ). a ++ (b ++ join_line (joined m n seed number block).number (joined m n seed number block).read (length block)))
-      (head_lines m n seed number block hn hL) (body_lines m n seed number block)
-      ∙ told_lines z
+  pub told_shown : 0 ≡ cut_refusal m n seed block → number < 2 ^ 64 → length block < 2 ^ 32
+      → shown m n seed number (length block) (check m n seed number block) (fragments m n number block) ≡ told m n seed number block
+  unfolding shown lines answer_line joined told
+  told_shown e hn hL =
+      ap₂ (λ (a b : List ℕ). a ++ (b ++ join_line (joined m n seed number block).number (joined m n seed number block).read (length block)))
+      (head_lines hn hL) body_lines
+      ∙ sym (simp (eq-eqb (cut_refusal m n seed block) 0 (sym e)))
 
 pub printed_short : (input : List ℕ) → length input < 13 → refusal_line 4 ≡ printed input
 unfolding printed

@@ -2,7 +2,7 @@
 use mathlib.Core.Path.{◌≡◌, refl, sym, ap, ap₂, subst, ◌∙◌}
 use mathlib.Core.List.{List, [], ◌∷◌, ◌++◌, map, append_assoc}
 use Prim.Native.Nat.{ℕ, zero, suc, ◌+◌, ◌-◌, ◌*◌, ◌/◌, ◌%◌, ◌<◌, ◌≤◌}
-use native.Mathlib.Nat.{mul-mod_right, not-suc-le-zero, le_of_suc-le-suc}
+use native.Mathlib.Nat.{mul-mod_right}
 use native.Mathlib.Numerals.{add-one}
 use native.Mathlib.Omega.{arith}
 use lib.ListN.{length, take, drop, replicate, length-append, length-drop}
@@ -20,7 +20,6 @@ use Rattle.refusal.specs.declared.Refusal.{Refusal}
 use Rattle.refusal.proofs.Outcome.{not_none}
 use Rattle.fingerprint.specs.Answer.{Fingerprinted, numbers_of, fingerprinted}
 use Rattle.cut.specs.Cut.{body_among}
-use Rattle.cut.proofs.Among.{among_part}
 use Rattle.join.specs.declared.Joined.{Joined}
 use Rattle.join.specs.Join.{join_answer}
 use Rattle.record.specs.declared.CheckHead.{CheckHead}
@@ -77,20 +76,16 @@ module _ (F seed : ℕ) (records : List ℕ) where
       (omega (arith, length-drop (i * record_length written_version F + body_place written_version) records))
 
   -- the fingerprint of a body is not refused
-  pub print_is : (i whole place : ℕ) (r : Result Column Refusal) → whole ≡ record_length written_version F → place ≡ body_place written_version
-      → i * record_length written_version F + record_length written_version F ≤ length records → F ≤ longest_body → F % 3 ≡ 0 → seed ≤ largest_seed
-      → numbers_of r ≡ fingerprinted seed (take (i * whole + place + F - (i * whole + place)) (drop (i * whole + place) records))
+  pub print_is : (i : ℕ) (body : List ℕ) (r : Result Column Refusal) → i * record_length written_version F + record_length written_version F ≤ length records
+      → (F ≤ longest_body) × (F % 3 ≡ 0) × (seed ≤ largest_seed) → body ≡ body_among F records i → numbers_of r ≡ fingerprinted seed body
       → r ≡ Ok (print_among F seed records i)
   unfolding fingerprinted print_among
-  print_is i whole place r ew ep within short columns known e =
+  print_is i body r within known eb e =
       given r
-      (e ∙ ap (fingerprinted seed) (among_part F records i whole place ew ep)
-      ∙ simp (le-ltb longest_body (length body) (omega (arith, long)), le-ltb largest_seed seed known, eq-eqb (length body % 3) 0 (ap (λ (k : ℕ). k % 3) long ∙ columns)))
+      (e ∙ ap (fingerprinted seed) eb
+      ∙ simp (le-ltb longest_body (length (body_among F records i)) (omega (arith, long, known.0)), le-ltb largest_seed seed known.2, eq-eqb (length (body_among F records i) % 3) 0 (ap (λ (k : ℕ). k % 3) long ∙ known.1)))
     where
-      body : List ℕ
-      body = body_among F records i
-
-      long : length body ≡ F
+      long : length (body_among F records i) ≡ F
       long = among_length i within
 
 pub columns_whole : (L m : ℕ) → body_length L m % 3 ≡ 0

@@ -36,7 +36,7 @@ fn cut_within(text: &mut Text, asked: Asked<'_>, fragments: &mut [u8], check: &m
     requires check_len { length check.old ≡ layout.check_length layout.written_version asked.m asked.n }
     ensures { let a = asked.entry in text.new.items ≡ told.told a.m a.n a.seed a.number a.block.now }
 {
-    let refused = cut::cut(
+    let cut = cut::cut(
         u32::from(asked.m),
         u32::from(asked.n),
         asked.seed,
@@ -45,8 +45,8 @@ fn cut_within(text: &mut Text, asked: Asked<'_>, fragments: &mut [u8], check: &m
         fragments,
         check,
     );
-    if refused != 0 {
-        return add_refusal(text, refused);
+    match cut {
+        Ok(()) => add_all(text, asked, check, fragments),
+        Err(refusal) => add_refusal(text, refusal),
     }
-    add_all(text, asked, check, fragments);
 }

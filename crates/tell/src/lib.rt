@@ -13,6 +13,7 @@ ghost use Rattle.tell.specs.Told as told;
 use asked::Asked;
 use cutting::cut_and_tell;
 use lines::add_refusal;
+use refusal::Refusal;
 use text::Text;
 
 // What stands before the block: m, n, the seed column, the block number.
@@ -41,10 +42,10 @@ fn print(text: &mut Text, input: &[u8])
     ensures { text.new.items ≡ told.printed input.now }
 {
     if input.len() < HEAD {
-        return add_refusal(text, 4);
+        return add_refusal(text, Refusal::WrongLength);
     }
     if HEAD + LONGEST < input.len() {
-        return add_refusal(text, 2);
+        return add_refusal(text, Refusal::TooLong);
     }
     let asked = Asked {
         m: input[0],

@@ -1,12 +1,14 @@
 // The four kinds of line, each added to a text.
 ghost use Rattle.std.specs.Prelude.{◌≡◌, ◌++◌, ◌∷◌, [], ◌+◌, ◌<◌, ◌≤◌};
 ghost use lib.ListN.{length};
+ghost use Rattle.refusal.specs.Number.{number_of};
 ghost use Rattle.tell.specs.Lines as lines;
 
 use crate::text::{Text, add_line};
 use column::Column;
 use join::Joined;
 use record::{CHECK_MARK, CheckHead, FRAGMENT_MARK};
+use refusal::Refusal;
 
 const JOIN_MARK: [u8; 3] = *b"DEC";
 
@@ -15,11 +17,11 @@ const REFUSAL_MARK: [u8; 3] = *b"REF";
 const END: [u8; 1] = *b"\n";
 
 #[tactic(auto, unfolding(crate::specs::Lines::refusal_line, crate::specs::Lines::line))]
-pub(crate) fn add_refusal(text: &mut Text, number: u32)
+pub(crate) fn add_refusal(text: &mut Text, refusal: Refusal)
     requires { length text.old.items + 25 ≤ 16384 }
-    ensures { text.new.items ≡ text.old.items ++ lines.refusal_line number }
+    ensures { text.new.items ≡ text.old.items ++ lines.refusal_line (number_of refusal) }
 {
-    add_line(text, REFUSAL_MARK, &[u64::from(number)], &END);
+    add_line(text, REFUSAL_MARK, &[u64::from(refusal.number())], &END);
 }
 
 #[tactic(auto, unfolding(crate::specs::Lines::check_line, crate::specs::Lines::line))]

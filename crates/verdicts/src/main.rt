@@ -3,14 +3,14 @@
 #![tactic(auto)]
 
 mod body;
-mod changed;
 mod check_record;
 mod fragment_record;
+mod input;
 mod order;
 mod records;
-mod room;
 mod told;
 
+use input::Change::Fragment;
 use std::io;
 
 fn main(rt: HostRuntime) -> io::Result<()> {
@@ -18,15 +18,27 @@ fn main(rt: HostRuntime) -> io::Result<()> {
     check_record::run(&rt)?;
     fragment_record::run(&rt)?;
     body::run(&rt)?;
-    order::run(&rt)?;
-    Ok(())
+    order::run(&rt)
 }
 
 // Every fragment of document 01's example.
 fn sound(rt: &HostRuntime) -> io::Result<()> {
-    changed::fragment(rt, "fragment 0", 13, b"\x00\x00\x00\x00\x03\x01\x02\x03")?;
-    changed::fragment(rt, "fragment 1", 13, b"\x01\x00\x00\x00\x03\x04\x05\x06")?;
-    changed::fragment(rt, "fragment 2", 0, b"")?;
-    changed::fragment(rt, "fragment 3", 13, b"\x03\x00\x00\x00\x03\x0e\x0b\x0c")?;
-    Ok(())
+    told::four(
+        rt,
+        &[
+            (
+                "fragment 0",
+                &[Fragment(13, b"\x00\x00\x00\x00\x03\x01\x02\x03")],
+            ),
+            (
+                "fragment 1",
+                &[Fragment(13, b"\x01\x00\x00\x00\x03\x04\x05\x06")],
+            ),
+            ("fragment 2", &[]),
+            (
+                "fragment 3",
+                &[Fragment(13, b"\x03\x00\x00\x00\x03\x0e\x0b\x0c")],
+            ),
+        ],
+    )
 }

@@ -1,30 +1,29 @@
-// A line for each input: what was changed, the number, the value, the bytes opened.
-use crate::room::Room;
+// A line for each case: what was changed, the number, the value, the bytes opened.
+use crate::input::{Change, Input};
+use crate::records::{CHECK, FRAGMENT, ONE_CHECK, ONE_FRAGMENT};
 use inspect::{Reason, Verdict};
 use std::io;
 
-// Of so many bytes of the check record's room and of the fragment's.
-pub(crate) fn parts(
-    rt: &HostRuntime,
-    what: &str,
-    wanted: u64,
-    check: &Room,
-    check_length: usize,
-    fragment: &Room,
-    fragment_length: usize,
-) -> io::Result<()> {
-    let c = &check[..];
-    let f = &fragment[..];
-    if check_length <= c.len() {
-        if fragment_length <= f.len() {
-            verdict(
-                rt,
-                what,
-                wanted,
-                &c[0..check_length],
-                &f[0..fragment_length],
-            )?;
+// What is changed, in words, and the changes in turn.
+pub(crate) type Case<'a> = (&'a str, &'a [Change<'a>]);
+
+// Of the block cut in four.
+pub(crate) fn four(rt: &HostRuntime, cases: &[Case<'_>]) -> io::Result<()> {
+    all(rt, &CHECK, &FRAGMENT, cases)
+}
+
+// Of the block in one body.
+pub(crate) fn one(rt: &HostRuntime, cases: &[Case<'_>]) -> io::Result<()> {
+    all(rt, &ONE_CHECK, &ONE_FRAGMENT, cases)
+}
+
+fn all(rt: &HostRuntime, check: &[u8], fragment: &[u8], cases: &[Case<'_>]) -> io::Result<()> {
+    for (what, changes) in cases {
+        let mut input = Input::new(check, fragment);
+        for change in *changes {
+            input.change(*change);
         }
+        verdict(rt, what, input.wanted, &input.check, &input.fragment)?;
     }
     Ok(())
 }
@@ -36,35 +35,23 @@ fn verdict(
     check: &[u8],
     fragment: &[u8],
 ) -> io::Result<()> {
-    print!(rt; "{what}:")?;
-    match inspect::check(wanted, check, fragment) {
-        Verdict::Accepted(index) => numbers(rt, 0, index as u64)?,
-        Verdict::Refused(reason) => refusal(rt, reason)?,
-    }
-    let opened = inspect::open(wanted, check, fragment);
-    number(rt, opened.len() as u64)?;
-    println!(rt; "")
+    let (number, value) = match inspect::check(wanted, check, fragment) {
+        Verdict::Accepted(index) => (0, u64::from(index)),
+        Verdict::Refused(reason) => refusal(reason),
+    };
+    let opened = inspect::open(wanted, check, fragment).len();
+    println!(rt; "{what}: {number} {value} {opened}")
 }
 
-fn refusal(rt: &HostRuntime, reason: Reason) -> io::Result<()> {
+fn refusal(reason: Reason) -> (u32, u64) {
     match reason {
-        Reason::CheckMark => numbers(rt, 5, 0),
-        Reason::CheckShape => numbers(rt, 6, 0),
-        Reason::OtherBlock => numbers(rt, 7, 0),
-        Reason::FragmentShape => numbers(rt, 8, 0),
-        Reason::OtherNumber(found) => numbers(rt, 9, found),
-        Reason::NoSuchHead => numbers(rt, 10, 0),
-        Reason::Hash => numbers(rt, 11, 0),
-        Reason::Fingerprint => numbers(rt, 12, 0),
+        Reason::CheckMark => (5, 0),
+        Reason::CheckShape => (6, 0),
+        Reason::OtherBlock => (7, 0),
+        Reason::FragmentShape => (8, 0),
+        Reason::OtherNumber(found) => (9, found),
+        Reason::NoSuchHead => (10, 0),
+        Reason::Hash => (11, 0),
+        Reason::Fingerprint => (12, 0),
     }
-}
-
-fn numbers(rt: &HostRuntime, given: u64, value: u64) -> io::Result<()> {
-    number(rt, given)?;
-    number(rt, value)?;
-    Ok(())
-}
-
-fn number(rt: &HostRuntime, n: u64) -> io::Result<()> {
-    print!(rt; " {n}")
 }

@@ -1,23 +1,24 @@
 -- `cutting::cut_within` meets its contract: the cut's refusal, or the lines of what it wrote.
-use Rattle.std.proofs.Common.{sym, ap, ◌∙◌, length, arith}
+use Rattle.std.proofs.Common.{sym, ◌∙◌, length, arith}
+use Rattle.refusal.proofs.Outcome.{not_none}
 use Rattle.cut.proofs.Refusals.{passed}
-use Rattle.tell.proofs.Choice.{refused_is, written, told_refused, told_shown}
+use Rattle.tell.proofs.Choice.{refused_is, told_refused, told_shown}
 use Rattle.tell.proofs.cutting.cut_within.Goals as goal
-
-pub returns-then-refused-ne0 : goal.returns-then-refused-ne0
-returns-then-refused-ne0 c =
-    rw c.requires.empty at c.add_refusal.ensures
-    ∙ told_refused _ _ _ _ _ _ (rw (c.from.ensures, c.from-2.ensures) at c.cut-refused.ensures.value ∙ refused_is _ _ _ _ _ _ c.requires.fragments_len c.requires.check_len) (omega arith)
 
 pub add_all-requires-clause-m_le_n : goal.add_all-requires-clause-m_le_n
 add_all-requires-clause-m_le_n c =
-    let passes = passed c.args.asked.m c.args.asked.n c.args.asked.seed c.args.asked.block.now c.args.fragments.now c.args.check.now (sym c.if-refused-ne0.false ∙ rw (c.from.ensures, c.from-2.ensures) at c.cut-refused.ensures.value) in
+    let passes = passed (rw (c.from.ensures, c.from-2.ensures) at c.in-Ok.ensures.value) in
     (passes.counts.most, passes.known)
 
-pub returns : goal.returns
-returns c =
-    let none = c.if-refused-ne0.false in
-    c.add_all.ensures
-    ∙ told_shown c.args.asked.m c.args.asked.n c.args.asked.seed c.args.asked.number c.args.asked.block.now c.cut-refused.result
-    (rw (c.from.ensures, c.from-2.ensures) at c.cut-refused.ensures.value ∙ refused_is _ _ _ _ _ _ c.requires.fragments_len c.requires.check_len) none (omega (arith, c.ranges.asked)) (omega (arith, c.args.asked.short)) c.cut-refused.new.check c.cut-refused.new.fragments
-    (rw (c.from.ensures, c.from-2.ensures) at c.cut-refused.ensures.check_after ∙ written c.cut-refused.result _ _ none) (rw (c.from.ensures, c.from-2.ensures) at c.cut-refused.ensures.fragments_after ∙ written c.cut-refused.result _ _ none)
+pub returns-in-Ok : goal.returns-in-Ok
+returns-in-Ok c =
+    rw (c.in-Ok.ensures.check_after, c.in-Ok.ensures.fragments_after, c.from.ensures, c.from-2.ensures) at c.add_all.ensures
+    ∙ told_shown c.args.asked.m c.args.asked.n c.args.asked.seed c.args.asked.number c.args.asked.block.now
+    (rw (c.from.ensures, c.from-2.ensures) at c.in-Ok.ensures.value ∙ refused_is _ _ _ _ _ _ c.requires.fragments_len c.requires.check_len)
+    (omega (arith, c.ranges.asked)) (omega (arith, c.args.asked.short))
+
+pub returns-in-Err : goal.returns-in-Err
+returns-in-Err c =
+    rw c.requires.empty at c.add_refusal.ensures
+    ∙ told_refused _ _ _ _ _ _ (not_none c.in-Err.refusal)
+    (rw (c.from.ensures, c.from-2.ensures) at c.in-Err.ensures.value ∙ refused_is _ _ _ _ _ _ c.requires.fragments_len c.requires.check_len)
