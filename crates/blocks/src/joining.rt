@@ -145,13 +145,19 @@ fn told(
 ) -> io::Result<()> {
     let mut out = [0xeeu8; 7];
     if length <= out.len() {
-        let got = join::join(wanted, check, records, &mut out[0..length]);
+        let (number, read, indexes) = match join::join(wanted, check, records, &mut out[0..length]) {
+            Ok(counts) => (0, counts.read, counts.indexes),
+            Err(refusal) => {
+                let (read, indexes) = refusal.values();
+                (refusal.number(), read, indexes)
+            }
+        };
         line::text(rt, "join from ")?;
         line::text(rt, what)?;
         line::text(rt, ":")?;
-        line::number(rt, got.number as u64)?;
-        line::number(rt, got.read)?;
-        line::number(rt, got.indexes)?;
+        line::number(rt, u64::from(number))?;
+        line::number(rt, read)?;
+        line::number(rt, indexes)?;
         line::byte(rt, out[0])?;
         line::byte(rt, out[4])?;
         line::end(rt)?;

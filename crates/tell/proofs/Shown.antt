@@ -20,8 +20,7 @@ use Rattle.refusal.specs.declared.Refusal.{Refusal}
 use Rattle.refusal.proofs.Outcome.{not_none}
 use Rattle.fingerprint.specs.Answer.{Fingerprinted, numbers_of, fingerprinted}
 use Rattle.cut.specs.Cut.{body_among}
-use Rattle.join.specs.declared.Joined.{Joined}
-use Rattle.join.specs.Join.{join_answer}
+use Rattle.join.specs.Join.{Joined, join_answer}
 use Rattle.record.specs.declared.CheckHead.{CheckHead}
 use Rattle.record.specs.Heads.{check_head_of}
 use Rattle.record.proofs.Buffer.{rest_lent}

@@ -2,13 +2,13 @@
 ghost use Rattle.std.specs.Prelude.{◌≡◌, ◌++◌, ◌∷◌, [], ◌+◌, ◌<◌, ◌≤◌};
 ghost use lib.ListN.{length};
 ghost use Rattle.refusal.specs.Number.{number_of};
+ghost use Rattle.join.specs.Join as joining;
 ghost use Rattle.tell.specs.Lines as lines;
 
 use crate::text::{Text, add_line};
 use column::Column;
-use join::Joined;
 use record::{CHECK_MARK, CheckHead, FRAGMENT_MARK};
-use refusal::Refusal;
+use refusal::{Counts, Refusal};
 
 const JOIN_MARK: [u8; 3] = *b"DEC";
 
@@ -49,12 +49,23 @@ pub(crate) fn add_fragment(text: &mut Text, index: u8, size: u32, print: Column)
 }
 
 #[tactic(auto, unfolding(crate::specs::Lines::join_line, crate::specs::Lines::line))]
-pub(crate) fn add_join(text: &mut Text, joined: Joined, length: usize)
+pub(crate) fn add_join(text: &mut Text, joined: Result<Counts, Refusal>, length: usize)
     requires { lib.ListN.length text.old.items + 67 ≤ 16384 }
-    ensures { text.new.items ≡ text.old.items ++ lines.join_line joined.number joined.read length }
+    ensures { let j = joining.numbers_of joined in text.new.items ≡ text.old.items ++ lines.join_line j.number j.read length }
 {
-    let numbers = [u64::from(joined.number), joined.read, length as u64];
+    let (number, read) = number_and_read(joined);
+    let numbers = [u64::from(number), read, length as u64];
     add_line(text, JOIN_MARK, &numbers, &END);
+}
+
+// A join's number, and how many records it read.
+fn number_and_read(joined: Result<Counts, Refusal>) -> (u32, u64)
+    ensures { let j = joining.numbers_of joined in result ≡ (j.number, j.read) }
+{
+    match joined {
+        Ok(counts) => (0, counts.read),
+        Err(refusal) => (refusal.number(), refusal.values().0),
+    }
 }
 
 // A space, the six digits of a column, and the line's end.

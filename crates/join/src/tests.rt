@@ -1,26 +1,29 @@
 // When a join is refused before it looks at the records.
 ghost use Rattle.std.specs.Prelude.{◌≡◌, cond, eqb};
+ghost use Rattle.refusal.specs.Number.{number_in};
 ghost use Rattle.record.specs.Heads as heads;
 ghost use Rattle.join.specs.Join as joining;
 
-// 5, 6, 7 or 4, the first that applies, or 0.
-pub(crate) fn refusal(wanted: u64, check: &[u8], records: &[u8], out: &[u8]) -> u32
-    ensures { result ≡ cond (heads.check_marked check.now) (cond (heads.check_shaped check.now) (cond (eqb (heads.check_head_of check.now).number wanted) (cond (joining.lengths_fit check.now records.now out.now) 0 4) 7) 6) 5 }
+use refusal::Refusal;
+
+// The first of 5, 6, 7 and 4 that applies.
+pub(crate) fn test(wanted: u64, check: &[u8], records: &[u8], out: &[u8]) -> Result<(), Refusal>
+    ensures { number_in result ≡ cond (heads.check_marked check.now) (cond (heads.check_shaped check.now) (cond (eqb (heads.check_head_of check.now).number wanted) (cond (joining.lengths_fit check.now records.now out.now) 0 4) 7) 6) 5 }
 {
     if !record::check_marked(check) {
-        return 5;
+        return Err(Refusal::CheckMark);
     }
     if !record::check_shaped(check) {
-        return 6;
+        return Err(Refusal::CheckShape);
     }
     let head = record::read_check(check);
     if head.number != wanted {
-        return 7;
+        return Err(Refusal::OtherBlock);
     }
     if !lengths_fit(check, records, out) {
-        return 4;
+        return Err(Refusal::WrongLength);
     }
-    0
+    Ok(())
 }
 
 // 4 is given unless this holds.

@@ -1,8 +1,8 @@
--- `join::refusal::lengths_fit` meets its contract: the three conditions, each made whatever the others say.
+-- `join::tests::lengths_fit` meets its contract: the three conditions, each made whatever the others say.
 use native.Mathlib.Omega.{arith}
 use Rattle.gather.proofs.Places.{some_stride}
 use Rattle.join.proofs.Tested.{lengths}
-use Rattle.join.proofs.refusal.lengths_fit.Goals as goal
+use Rattle.join.proofs.tests.lengths_fit.Goals as goal
 
 pub nonzero_rem-result : goal.nonzero_rem-result
 nonzero_rem-result c =
