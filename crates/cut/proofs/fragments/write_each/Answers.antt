@@ -12,4 +12,4 @@ pub loop-index-preserved : goal.loop-index-preserved
 loop-index-preserved c =
     let at = ap₂ (λ (i step : ℕ). i * step) c.from.ensures c.record_length-step.ensures in
     filled_more _ c.loop-index.index _ _ _ c.loop-index.fragments c.write_record.new.out c.loop-index.invariant c.write_record.ensures
-    (ap length c.write_record.ensures ∙ one_record _ _ _ c.args.bodies.now.block.now _) at (omega (arith, at, within (record_length written_version c.args.bodies.now.size) c.args.n c.loop-index.index c.loop-index-test.true))
+    (ap length c.write_record.ensures ∙ one_record _ _ _ c.args.bodies.now.block.now _) at (omega (arith, at, within (record_length written_version c.args.bodies.now.size) c.args.n c.loop-index.index (omega arith)))
