@@ -23,23 +23,22 @@ fn all(rt: &HostRuntime, check: &[u8], fragment: &[u8], cases: &[Case<'_>]) -> i
         for change in *changes {
             input.change(*change);
         }
-        verdict(rt, what, input.wanted, &input.check, &input.fragment)?;
+        verdict(rt, what, &input)?;
     }
     Ok(())
 }
 
-fn verdict(
-    rt: &HostRuntime,
-    what: &str,
-    wanted: u64,
-    check: &[u8],
-    fragment: &[u8],
-) -> io::Result<()> {
-    let (number, value) = match inspect::check(wanted, check, fragment) {
+fn verdict(rt: &HostRuntime, what: &str, input: &Input) -> io::Result<()> {
+    let Input {
+        wanted,
+        check,
+        fragment,
+    } = input;
+    let (number, value) = match inspect::check(*wanted, check, fragment) {
         Verdict::Accepted(index) => (0, u64::from(index)),
         Verdict::Refused(reason) => refusal(reason),
     };
-    let opened = inspect::open(wanted, check, fragment).len();
+    let opened = inspect::open(*wanted, check, fragment).len();
     println!(rt; "{what}: {number} {value} {opened}")
 }
 
