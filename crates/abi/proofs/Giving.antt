@@ -1,24 +1,14 @@
--- The three ways in which a result is given: refused by the operation, refused for its buffer, and put there.
--- Assumes nothing.
-use mathlib.Core.Path.{◌≡◌, refl}
+-- A refused operation's number is what is given, whatever buffer is lent. Assumes nothing.
+use mathlib.Core.Path.{◌≡◌, refl, ap, ◌∙◌}
 use Prim.Native.Nat.{ℕ}
 use mathlib.Core.List.{List}
-use lib.ListN.{length}
-use borrow.Author.Tests.{eq-eqb, ne_eqb}
-use Rattle.cut.specs.Cut.{held}
+use borrow.Author.Tests.{ne_eqb}
+use Rattle.refusal.specs.declared.Refusal.{Refusal}
+use Rattle.refusal.specs.Number.{number_of}
+use Rattle.refusal.proofs.Outcome.{not_none}
 use Rattle.abi.specs.Abi.{numbered}
 
-pub refused : (number n : ℕ) (result buffer : List ℕ) → (number ≡ 0 → ⊥)
-    → (number ≡ numbered number n buffer) × (buffer ≡ held number result buffer)
+pub told : (r : Refusal) (number given n : ℕ) (buffer : List ℕ) → given ≡ number_of r → number_of r ≡ number
+    → given ≡ numbered number n buffer
 unfolding numbered
-refused number n result buffer h = (simp (ne_eqb number 0 h), simp (ne_eqb number 0 h))
-
-pub other : (number n : ℕ) (result buffer : List ℕ) → number ≡ 0 → (length buffer ≡ n → ⊥)
-    → (4 ≡ numbered number n buffer) × (buffer ≡ held 4 result buffer)
-unfolding numbered
-other number n result buffer e h = (simp (eq-eqb number 0 e, ne_eqb (length buffer) n h), refl)
-
-pub put : (number : ℕ) (result buffer : List ℕ) → number ≡ 0 → length buffer ≡ length result
-    → (0 ≡ numbered number (length result) buffer) × (result ≡ held 0 result buffer)
-unfolding numbered
-put number result buffer e h = (simp (eq-eqb number 0 e, eq-eqb (length buffer) (length result) h), refl)
+told r number given n buffer eg e = eg ∙ e ∙ simp (ne_eqb number 0 (λ none. not_none r (e ∙ none)))

@@ -4,8 +4,6 @@
 // `fragment` here, since contracts have another use for that word.
 #![tactic(auto)]
 
-mod verdicts;
-
 ghost use Rattle.std.specs.Prelude.{◌≡◌};
 ghost use lib.ListN.{length};
 ghost use Rattle.sha256.specs.Hash.{answered};
@@ -17,7 +15,8 @@ ghost use Rattle.cut.specs.Standard as standard;
 ghost use Rattle.join.specs.Join as joining;
 ghost use Rattle.abi.specs.Abi.{numbered};
 
-use verdicts::in_numbers;
+use inspect::Verdict;
+use refusal::Refusal;
 
 pub fn rwk_cut(
     m: u32,
@@ -62,9 +61,17 @@ pub fn rwk_check(wanted: u64, check: &[u8], fragment: &[u8], value: &mut u64) ->
     ensures value { result ≡ (checked wanted check.now fragment.now).number }
     ensures value_after { value.new ≡ (checked wanted check.now fragment.now).value }
 {
-    let answer = in_numbers(inspect::check(wanted, check, fragment));
-    *value = answer.value;
-    answer.number
+    match inspect::check(wanted, check, fragment) {
+        Verdict::Accepted(index) => {
+            *value = u64::from(index);
+            0
+        }
+        Verdict::Refused(reason) => {
+            let refusal = Refusal::from(reason);
+            *value = refusal.values().0;
+            refusal.number()
+        }
+    }
 }
 
 pub fn rwk_open(
@@ -78,16 +85,19 @@ pub fn rwk_open(
     ensures start_after { start.new ≡ opened_place wanted check.now fragment.now }
     ensures length_after { length.new ≡ lib.ListN.length (opened wanted check.now fragment.now) }
 {
-    let answer = in_numbers(inspect::check(wanted, check, fragment));
-    if answer.number != 0 {
-        *start = 0;
-        *length = 0;
-        return answer.number;
+    match inspect::check(wanted, check, fragment) {
+        Verdict::Accepted(_) => {
+            let at = record::body_place(record::read_check(check).version);
+            *start = at as u64;
+            *length = (fragment.len() - at) as u64;
+            0
+        }
+        Verdict::Refused(reason) => {
+            *start = 0;
+            *length = 0;
+            Refusal::from(reason).number()
+        }
     }
-    let at = record::body_place(record::read_check(check).version);
-    *start = at as u64;
-    *length = (fragment.len() - at) as u64;
-    0
 }
 
 pub fn rwk_join(
@@ -113,30 +123,30 @@ pub fn rwk_sha256(body: &[u8], digest: &mut [u8]) -> u32
     ensures value { result ≡ numbered (answered body.now).number 32 digest.old }
     ensures digest_after { digest.new ≡ cutting.held result (answered body.now).digest digest.old }
 {
-    let hashed = sha256::sha256(body);
-    let result = hashed.digest;
-    give(hashed.number, &result, digest)
+    match sha256::sha256(body) {
+        Ok(result) => give(&result, digest),
+        Err(refusal) => refusal.number(),
+    }
 }
 
 pub fn rwk_fingerprint(seed: u32, body: &[u8], column: &mut [u8]) -> u32
     ensures value { result ≡ numbered (fingerprinted seed body.now).number 3 column.old }
     ensures column_after { column.new ≡ cutting.held result (column_bytes (fingerprinted seed body.now).column) column.old }
 {
-    let printed = fingerprint::fingerprint(seed, body);
-    let result = [printed.column.a, printed.column.b, printed.column.c];
-    give(printed.number as u32, &result, column)
+    match fingerprint::fingerprint(seed, body) {
+        Ok(print) => give(&[print.a, print.b, print.c], column),
+        Err(refusal) => refusal.number(),
+    }
 }
 
-// Puts the result of an operation that gave this number into the buffer, unless one of the two refuses.
-fn give(number: u32, res: &[u8], buffer: &mut [u8]) -> u32
-    ensures value { result ≡ numbered number (length res.now) buffer.old }
+// Puts a result into the buffer, unless that has another length.
+#[tactic(auto, unfolding(crate::specs::Abi::numbered))]
+fn give(res: &[u8], buffer: &mut [u8]) -> u32
+    ensures value { result ≡ numbered 0 (length res.now) buffer.old }
     ensures buffer_after { buffer.new ≡ cutting.held result res.now buffer.old }
 {
-    if number != 0 {
-        return number;
-    }
     if buffer.len() != res.len() {
-        return 4;
+        return Refusal::WrongLength.number();
     }
     buffer.copy_from_slice(res);
     0

@@ -25,9 +25,10 @@ pub(crate) fn run(rt: &HostRuntime) -> io::Result<()> {
 }
 
 fn print(rt: &HostRuntime, seed: u32, body: &[u8]) -> io::Result<()> {
-    let got = fingerprint::fingerprint(seed, body);
-    let Column { a, b, c } = got.column;
     let length = body.len();
-    let number = got.number;
+    let (number, Column { a, b, c }) = match fingerprint::fingerprint(seed, body) {
+        Ok(print) => (0, print),
+        Err(refusal) => (refusal.number(), Column::ZERO),
+    };
     println!(rt; "fingerprint at seed, of length {seed} {length}: {number} {a:02x} {b:02x} {c:02x}")
 }

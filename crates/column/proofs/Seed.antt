@@ -3,17 +3,13 @@ use mathlib.Core.Path.{◌≡◌, sym, ap, ap₂, ◌∙◌}
 use Prim.Native.Nat.{ℕ, ◌+◌, ◌*◌, ◌/◌, ◌%◌, ◌≤◌, ◌<◌}
 use native.Mathlib.Nat.{div-add-mod', div-div-eq-div-mul}
 use native.Mathlib.Omega.{arith}
-use borrow.Author.Tests.{lt-ltb, le-ltb}
+use borrow.Author.Tests.{le-ltb}
 use Rattle.limits.specs.Limits.{largest_seed}
 use Rattle.column.specs.declared.Column.{Column}
-use Rattle.column.specs.Column.{zero, from_seed}
+use Rattle.column.specs.Column.{from_seed}
 
 pub column_path : (u v : Column) → u.a ≡ v.a → u.b ≡ v.b → u.c ≡ v.c → u ≡ v
 column_path u v p q r = λ i. record { a = p i; b = q i; c = r i }
-
-pub large_seed : (s : ℕ) → largest_seed < s → from_seed s ≡ zero
-unfolding from_seed
-large_seed s h = rw (lt-ltb largest_seed s h, from_seed)
 
 pub small_seed : (s : ℕ) → s ≤ largest_seed → from_seed s ≡ record { a = s % 256; b = s / 256 % 256; c = s / 65536 }
 unfolding from_seed

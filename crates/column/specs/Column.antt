@@ -1,5 +1,5 @@
 -- Columns of bytes, as the code holds them: the column of a seed number, sums, multiples and products.
-use Rattle.std.specs.Prelude.{ℕ, ◌/◌, ◌%◌, true, false, ltb}
+use Rattle.std.specs.Prelude.{ℕ, ◌/◌, ◌%◌, true, false, ltb, List, get_or}
 use Rattle.limits.specs.Limits.{largest_seed}
 use Rattle.algebra.specs.Carrier.{Carrier}
 use Rattle.algebra.specs.Combination.{Space}
@@ -13,6 +13,10 @@ triple u = record { a = u.a; b = u.b; c = u.c }
 
 abbrev pub column : Triple ℕ → Column
 column t = record { a = t.a; b = t.b; c = t.c }
+
+-- the column of three bytes in coefficient order
+abbrev pub of_bytes : List ℕ → Column
+of_bytes bytes = record { a = get_or bytes 0 0; b = get_or bytes 1 0; c = get_or bytes 2 0 }
 
 abbrev pub zero : Column
 zero = column (zero_triple bytes)

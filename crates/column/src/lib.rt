@@ -2,10 +2,12 @@
 // Column (a, b, c) is a + b x + c x^2 modulo x^3 + x + 1. No function asks anything of its caller.
 #![tactic(auto)]
 
-ghost use Rattle.std.specs.Prelude.{◌≡◌};
+ghost use Rattle.std.specs.Prelude.{◌≡◌, [], ◌∷◌};
 ghost use Rattle.column.specs.Column as column;
 
-#[derive(Clone, Copy)]
+use std::ops::{Add, Mul};
+
+#[derive(Clone, Copy, Debug, Default, PartialEq, Eq, Hash)]
 pub struct Column {
     pub a: u8,
     pub b: u8,
@@ -18,19 +20,25 @@ impl Column {
     pub const ONE: Column = Column { a: 1, b: 0, c: 0 };
 
     // The column of a seed number; of a number over the largest seed the zero column.
+    #[tactic(auto, unfolding(crate::specs::Column::from_seed))]
     pub fn from_seed(seed: u32) -> Column
         ensures { result ≡ column.from_seed seed }
     {
         if seed > limits::LARGEST_SEED {
             return Column::ZERO;
         }
-        Column {
-            a: (seed % 256) as u8,
-            b: (seed / 256 % 256) as u8,
-            c: (seed / 65536) as u8,
-        }
+        let [a, b, c, _] = seed.to_le_bytes();
+        Column { a, b, c }
     }
 
+    // Its three bytes in coefficient order.
+    pub fn to_bytes(self) -> [u8; 3]
+        ensures { result ≡ self.a ∷ self.b ∷ self.c ∷ [] }
+    {
+        [self.a, self.b, self.c]
+    }
+
+    #[tactic(auto, unfolding(crate::specs::Column::plus))]
     pub fn plus(self, other: Column) -> Column
         ensures { result ≡ column.plus self other }
     {
@@ -41,6 +49,7 @@ impl Column {
         }
     }
 
+    #[tactic(auto, unfolding(crate::specs::Column::scaled))]
     pub fn scaled(self, by: u8) -> Column
         ensures { result ≡ column.scaled by self }
     {
@@ -52,6 +61,7 @@ impl Column {
     }
 
     // Times x, where x^3 is x + 1.
+    #[tactic(auto, unfolding(crate::specs::Column::shifted), using(field::proofs::Sum::plus_comm))]
     pub fn shifted(self) -> Column
         ensures { result ≡ column.shifted self }
     {
@@ -63,11 +73,53 @@ impl Column {
     }
 
     // By Horner's rule on the other's three bytes.
+    #[tactic(auto, unfolding(crate::specs::Column::plus, crate::specs::Column::scaled, crate::specs::Column::shifted, crate::specs::Column::times))]
     pub fn times(self, other: Column) -> Column
         ensures { result ≡ column.times self other }
     {
-        let high = self.scaled(other.c).shifted();
-        let middle = self.scaled(other.b).plus(high).shifted();
-        self.scaled(other.a).plus(middle)
+        let high = (self * other.c).shifted();
+        let middle = (self * other.b + high).shifted();
+        self * other.a + middle
+    }
+}
+
+// The column of three bytes in coefficient order.
+impl From<[u8; 3]> for Column {
+    ghost from_gives = { λ bytes u. u ≡ column.of_bytes bytes };
+
+    fn from(bytes: [u8; 3]) -> Column {
+        let [a, b, c] = bytes;
+        Column { a, b, c }
+    }
+}
+
+impl Add for Column {
+    type Output = Column;
+
+    ghost add_gives = { λ u v sum. sum ≡ column.plus u v };
+
+    fn add(self, other: Column) -> Column {
+        self.plus(other)
+    }
+}
+
+// The multiple by a byte.
+impl Mul<u8> for Column {
+    type Output = Column;
+
+    ghost mul_gives = { λ u by multiple. multiple ≡ column.scaled by u };
+
+    fn mul(self, by: u8) -> Column {
+        self.scaled(by)
+    }
+}
+
+impl Mul for Column {
+    type Output = Column;
+
+    ghost mul_gives = { λ u v product. product ≡ column.times u v };
+
+    fn mul(self, other: Column) -> Column {
+        self.times(other)
     }
 }

@@ -1,11 +1,9 @@
--- The check record from the bodies where they stand: each hash, each fingerprint, and the three parts of the record.
+-- The check record from the bodies where they stand: each fingerprint, and the three parts of the record.
 use mathlib.Core.Path.{◌≡◌, ap, ap₂, ◌∙◌}
 use mathlib.Core.List.{List, [], ◌∷◌}
-use Prim.Native.Nat.{ℕ, zero, suc, ◌+◌, ◌-◌, ◌*◌, ◌<◌, ◌≤◌}
+use Prim.Native.Nat.{ℕ, zero, suc, ◌+◌, ◌*◌, ◌<◌, ◌≤◌}
 use native.Mathlib.Omega.{arith}
-use borrow.Author.Tests.{le-ltb}
-use lib.ListN.{length, take, drop, length-take}
-use Rattle.limits.specs.Limits.{longest_body}
+use lib.ListN.{take, drop}
 use Rattle.algebra.specs.Several.{All}
 use Rattle.algebra.proofs.Several.{all_take}
 use Rattle.column.specs.declared.Column.{Column}
@@ -14,9 +12,6 @@ use Rattle.fingerprint.specs.Fingerprint.{columns_of, fingerprint_at}
 use Rattle.fingerprint.specs.Horner.{table_of, evaluated}
 use Rattle.fingerprint.proofs.Packing.{Bytes}
 use Rattle.fingerprint.proofs.Lookups.{evaluated_fingerprint}
-use Rattle.sha256.specs.declared.Hashed.{Hashed}
-use Rattle.sha256.specs.Fips180.{SHA_256}
-use Rattle.sha256.specs.Hash.{answered}
 use Rattle.record.specs.Layout.{written_version, record_length, body_place}
 use Rattle.cut.specs.Cut.{body_among}
 
@@ -28,29 +23,16 @@ all_drop P (suc n) (a ∷ l) h = all_drop P n l h.1
 
 module _ (F : ℕ) (records : List ℕ) (i : ℕ) where
   -- where it stands
-  pub among_part : (whole place : ℕ) → whole ≡ record_length written_version F → place ≡ body_place written_version
-      → take (i * whole + place + F - (i * whole + place)) (drop (i * whole + place) records) ≡ body_among F records i
+  pub among_part : (j whole place at : ℕ) → j ≡ i → whole ≡ record_length written_version F → place ≡ body_place written_version → at ≡ j * whole + place
+      → take F (drop at records) ≡ body_among F records i
   unfolding body_among
-  among_part whole place ew ep =
-      ap₂ (λ (k j : ℕ). take k (drop j records)) (let e : i * whole + place + F - (i * whole + place) ≡ F = omega arith in e)
-      (ap₂ (λ (x y : ℕ). i * x + y) ew ep)
-
-  among_short : length (body_among F records i) ≤ F
-  unfolding body_among
-  among_short = omega (arith, length-take F (drop (i * record_length written_version F + body_place written_version) records))
+  among_part j whole place at ej ew ep ea = cc
 
   among_small : All (λ n. n < 256) records → All (λ n. n < 256) (body_among F records i)
   unfolding body_among
   among_small h = all_take _ F _ (all_drop _ (i * record_length written_version F + body_place written_version) records h)
 
   module _ (body : List ℕ) (eb : body ≡ body_among F records i) where
-    -- its hash, which is not refused
-    pub hash_is : F ≤ longest_body → (h : Hashed) → h ≡ answered body → h.digest ≡ SHA_256 (body_among F records i)
-    unfolding answered
-    hash_is fits h e =
-        ap (λ (x : Hashed). x.digest) (e ∙ ap answered eb)
-        ∙ simp (le-ltb longest_body (length (body_among F records i)) (omega (arith, among_short)))
-
     -- its fingerprint, by the table of the seed
     pub print_is : (y z u : Column) (t : List ℕ) → Bytes y → All (λ n. n < 256) records → z ≡ times y y → t ≡ table_of z
         → u ≡ evaluated t y (columns_of body) → u ≡ fingerprint_at y (body_among F records i)

@@ -1,6 +1,5 @@
 pub mod Among
 pub mod Filling
-pub mod Planning
 pub mod Records
 pub mod Refusals
 pub mod Sources

@@ -1,18 +1,18 @@
 -- When a cut is refused: each way out of the tests, and what has been tested where it is not refused.
-use mathlib.Core.Path.{◌≡◌, refl, sym, ap, ◌∙◌}
+use mathlib.Core.Path.{◌≡◌, refl}
 use mathlib.Core.Bool.{Bool, true, false, cond}
 use mathlib.Core.List.{List}
-use Prim.Native.Nat.{ℕ, ◌*◌, ◌<◌, ◌≤◌}
+use Prim.Native.Nat.{ℕ, ◌*◌, ◌≤◌}
 use native.Mathlib.Omega.{arith}
 use lib.Dec.{eqb, leb}
 use lib.ListN.{length}
-use borrow.Author.Tests.{le-leb, lt-leb, eq-eqb, ne_eqb, leb-true, eqb-true}
+use borrow.Author.Tests.{leb-true, eqb-true}
 use Rattle.limits.specs.Limits.{longest_block, largest_seed}
 use Rattle.code.specs.Cutting.{body_length}
 use Rattle.record.specs.Layout.{written_version, check_length, record_length}
 use Rattle.record.specs.Heads.{counts_fit}
 use Rattle.record.proofs.Counts.{both, Counts, counted}
-use Rattle.cut.specs.Cut.{buffers_fit, cut_number, held}
+use Rattle.cut.specs.Cut.{buffers_fit, cut_number}
 
 -- what has been tested where nothing is refused
 pub record Passed (m n seed : ℕ) (block fragments check : List ℕ) : Type 0 where
@@ -22,43 +22,7 @@ pub record Passed (m n seed : ℕ) (block fragments check : List ℕ) : Type 0 w
   pub records_fit : length fragments ≡ n * record_length written_version (body_length (length block) m)
   pub check_fits : length check ≡ check_length written_version m n
 
-module _ (m n seed : ℕ) (block fragments check : List ℕ) where
-  pub other_counts : counts_fit m n ≡ false → 1 ≡ cut_number m n seed block fragments check
-  unfolding cut_number
-  other_counts e = simp e
-
-  module _ (counts : counts_fit m n ≡ true) where
-    pub too_long : longest_block < length block → 2 ≡ cut_number m n seed block fragments check
-    unfolding cut_number
-    too_long h = simp (counts, lt-leb _ _ h)
-
-    module _ (short : length block ≤ longest_block) where
-      pub no_seed : largest_seed < seed → 3 ≡ cut_number m n seed block fragments check
-      unfolding cut_number
-      no_seed h = simp (counts, le-leb _ _ short, lt-leb _ _ h)
-
-      module _ (known : seed ≤ largest_seed) where
-        buffers : (number : ℕ) (fit : Bool) → cond fit 0 4 ≡ number → buffers_fit m n block fragments check ≡ fit → number ≡ cut_number m n seed block fragments check
-        unfolding cut_number
-        buffers number fit e h = sym e ∙ sym (simp (counts, le-leb _ _ short, le-leb _ _ known, h))
-
-        module _ (size whole : ℕ) (es : size ≡ body_length (length block) m) (ew : whole ≡ record_length written_version size) where
-          wanted : n * whole ≡ n * record_length written_version (body_length (length block) m)
-          wanted = ap (λ (k : ℕ). n * k) (ew ∙ ap (record_length written_version) es)
-
-          pub other_records : (length fragments ≡ n * whole → ⊥) → 4 ≡ cut_number m n seed block fragments check
-          unfolding buffers_fit
-          other_records ne = buffers 4 false refl (simp (ne_eqb _ _ (λ e. ne (e ∙ sym wanted))))
-
-          module _ (fits : length fragments ≡ n * whole) (summary : ℕ) (ec : summary ≡ check_length written_version m n) where
-            pub other_check : (length check ≡ summary → ⊥) → 4 ≡ cut_number m n seed block fragments check
-            unfolding buffers_fit
-            other_check ne = buffers 4 false refl (simp (eq-eqb _ _ (fits ∙ wanted), ne_eqb _ _ (λ e. ne (e ∙ sym ec))))
-
-            pub nothing_refused : length check ≡ summary → 0 ≡ cut_number m n seed block fragments check
-            unfolding buffers_fit
-            nothing_refused e = buffers 0 true refl (simp (eq-eqb _ _ (fits ∙ wanted), eq-eqb _ _ (e ∙ ec)))
-
+module _ {m n seed : ℕ} {block fragments check : List ℕ} where
   pub passed : 0 ≡ cut_number m n seed block fragments check → Passed m n seed block fragments check
   unfolding cut_number buffers_fit
   passed = go (counts_fit m n) refl (leb (length block) longest_block) refl (leb seed largest_seed) refl (buffers_fit m n block fragments check) refl
@@ -82,7 +46,3 @@ module _ (m n seed : ℕ) (block fragments check : List ℕ) where
             records_fit = eqb-true (length fragments) records fit.0;
             check_fits = eqb-true (length check) (check_length written_version m n) fit.1;
           }
-
--- a buffer holds what it held
-pub kept : (number : ℕ) (written before : List ℕ) → (number ≡ 0 → ⊥) → before ≡ held number written before
-kept number written before ne = simp (ne_eqb number 0 ne)

@@ -2,12 +2,11 @@
 -- coefficient.
 use mathlib.Core.Path.{◌≡◌, refl, sym, ap, ◌∙◌}
 use mathlib.Core.List.{List, [], ◌∷◌, ◌++◌, map}
-use Prim.Native.Nat.{ℕ, zero, suc, ◌+◌, ◌-◌, ◌*◌, ◌^◌, ◌<◌, ◌≤◌, min}
+use Prim.Native.Nat.{ℕ, zero, suc, ◌+◌, ◌-◌, ◌*◌, ◌^◌, ◌<◌, ◌≤◌}
 use native.Mathlib.Nat.{le_of_lt, mul-le-mul_right}
-use native.Mathlib.Decide.{dec_le}
 use native.Mathlib.Omega.{arith}
 use lib.ListN.{length, get_or, take, drop, replicate, length-take, length-drop, length-append, length-replicate, drop_of_length-le}
-use lib.Seq.{take_all, get_or-take, get_or-drop}
+use lib.Seq.{get_or-take, get_or-drop}
 use Rattle.algebra.specs.Several.{All}
 use Rattle.algebra.specs.Combination.{combined, itself}
 use Rattle.algebra.proofs.Several.{listed_at}
@@ -26,29 +25,9 @@ use Rattle.record.proofs.Buffer.{put_fits}
 abbrev pub own : ℕ → List ℕ → ℕ → List ℕ
 own F block j = take F (drop (j * F) block)
 
-take_least : (n : ℕ) (l : List ℕ) → take (min n (length l)) l ≡ take n l
-take_least n l = elim (dec_le n (length l)) [
-  | yes h ↦ ap (λ (k : ℕ). take k l) (let e : min n (length l) ≡ n = omega arith in e)
-  | no h ↦ take_all (min n (length l)) l (omega arith) ∙ sym (take_all n l (omega arith))
-]
-
-drop_least : (n : ℕ) (l : List ℕ) → drop (min n (length l)) l ≡ drop n l
-drop_least n l = elim (dec_le n (length l)) [
-  | yes h ↦ ap (λ (k : ℕ). drop k l) (let e : min n (length l) ≡ n = omega arith in e)
-  | no h ↦ drop_of_length-le l {i = min n (length l)} (omega arith) ∙ sym (drop_of_length-le l {i = n} (omega arith))
-]
-
--- where body j begins fits a word
-pub place_fits : (j F : ℕ) → j < 2 ^ 8 → F < 2 ^ 32 → j * F < 2 ^ 64
+-- where body j begins, or record j, fits a word and leaves room for more
+pub place_fits : (j F : ℕ) → j < 2 ^ 8 → F < 2 ^ 33 → j * F < 2 ^ 41
 place_fits j F hj hF = omega (arith, mul-le-mul_right F (le_of_lt hj))
-
--- it lies between a start and an end within the block
-pub own_part : (block : List ℕ) (F at start count : ℕ) → start ≡ min at (length block) → count ≡ min F (length block - start)
-    → take (start + count - start) (drop start block) ≡ take F (drop at block)
-own_part block F at start count es ec =
-    ap (λ (k : ℕ). take k (drop start block)) (let e : start + count - start ≡ min F (length (drop start block)) = omega (arith, length-drop start block) in e)
-    ∙ take_least F (drop start block)
-    ∙ ap (take F) (ap (λ (k : ℕ). drop k block) es ∙ drop_least at block)
 
 own_byte : (F : ℕ) (block : List ℕ) (j p : ℕ) → p < F → get_or (own F block j) p 0 ≡ source F block p j
 unfolding source

@@ -48,7 +48,13 @@ fn add_all(out: &mut [u8], m: u8, size: u32, index: u8, block: &[u8], coefficien
 fn own(size: u32, j: u8, block: &[u8]) -> &[u8]
     ensures { result.now ≡ take size (drop (j * size) block.now) }
 {
-    let start = code::shorter((j as usize) * (size as usize), block.len());
-    let end = start + code::shorter(size as usize, block.len() - start);
-    &block[start..end]
+    part(block, usize::from(j) * size as usize, size)
+}
+
+// `size` bytes from `at` on; fewer, or none, where the bytes end before.
+pub(crate) fn part(bytes: &[u8], at: usize, size: u32) -> &[u8]
+    ensures { result.now ≡ take size (drop at bytes.now) }
+{
+    let behind = &bytes[at.min(bytes.len())..];
+    &behind[..behind.len().min(size as usize)]
 }

@@ -5,23 +5,20 @@
 
 mod bodies;
 mod fragments;
-mod refusal;
 mod standard;
 mod summary;
+mod tests;
 
 ghost use Rattle.std.specs.Prelude.{◌≡◌};
+ghost use Rattle.refusal.specs.Number.{number_in};
 ghost use Rattle.cut.specs.Cut as cut;
 
+use record::WRITTEN_VERSION;
+use refusal::Refusal;
 pub use standard::{card_size, cut_standard};
 
-// A number of the table of what comes back, and how many bytes a card has to hold; beside a refusal 0.
-#[derive(Clone, Copy)]
-pub struct CardSize {
-    pub number: u32,
-    pub size: u64,
-}
-
 // Writes the n records, then their check record from the bodies where they now stand.
+#[tactic(auto, using(crate::proofs::Refusals::passed, crate::proofs::Records::check_is))]
 pub fn cut(
     m: u32,
     n: u32,
@@ -30,24 +27,23 @@ pub fn cut(
     block: &[u8],
     fragments: &mut [u8],
     check: &mut [u8],
-) -> u32
-    ensures value { result ≡ cut.cut_number m n seed block.now fragments.old check.old }
-    ensures fragments_after { fragments.new ≡ cut.held result (cut.fragments m n number block.now) fragments.old }
-    ensures check_after { check.new ≡ cut.held result (cut.check m n seed number block.now) check.old }
+) -> Result<(), Refusal>
+    ensures value { number_in result ≡ cut.cut_number m n seed block.now fragments.old check.old }
+    ensures fragments_after { fragments.new ≡ cut.held (number_in result) (cut.fragments m n number block.now) fragments.old }
+    ensures check_after { check.new ≡ cut.held (number_in result) (cut.check m n seed number block.now) check.old }
 {
-    let refused = refusal::refusal(m, n, seed, block, fragments, check);
-    if refused != 0 {
-        return refused;
-    }
-    fragments::write_fragments(m as u8, n as u8, number, block, fragments);
-    summary::write_check(
-        m as u8,
-        n as u8,
-        seed,
-        number,
-        block.len() as u32,
-        fragments,
-        check,
-    );
-    0
+    tests::test(m, n, seed, block, fragments, check)?;
+    let (m, n) = (m as u8, n as u8);
+    fragments::write_fragments(m, n, number, block, fragments);
+    summary::write_check(m, n, seed, number, block.len() as u32, fragments, check);
+    Ok(())
+}
+
+// The body of record `index` among records that stand end to end, each with a body of `size` bytes; what of it is there, where they end before.
+#[tactic(auto, unfolding(crate::specs::Cut::body_among), using(crate::proofs::Sources::place_fits, record::proofs::Head::head_below))]
+pub fn body_among(size: u32, records: &[u8], index: u8) -> &[u8]
+    ensures { result.now ≡ cut.body_among size records.now index }
+{
+    let start = usize::from(index) * record::record_length(WRITTEN_VERSION, size);
+    bodies::part(records, start + record::body_place(WRITTEN_VERSION), size)
 }

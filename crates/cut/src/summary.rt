@@ -1,7 +1,7 @@
 // The check record of n fragment records, from the bodies where they stand.
 ghost use Rattle.std.specs.Prelude.{◌≡◌, ◌+◌, ◌*◌, ◌≤◌};
 ghost use lib.ListN.{length};
-ghost use Rattle.limits.specs.Limits.{longest_block, longest_body};
+ghost use Rattle.limits.specs.Limits.{longest_block};
 ghost use Rattle.algebra.specs.Several.{listed, end_to_end};
 ghost use Rattle.code.specs.Cutting as cutting;
 ghost use Rattle.fingerprint.specs.Fingerprint as print;
@@ -9,6 +9,7 @@ ghost use Rattle.sha256.specs.Fips180.{SHA_256};
 ghost use Rattle.record.specs.Layout as layout;
 ghost use Rattle.cut.specs.Cut as cut;
 
+use crate::body_among;
 use column::Column;
 use record::{CheckHead, WRITTEN_VERSION};
 
@@ -48,16 +49,15 @@ pub(crate) fn write_check(
 
 // Writes the hash of each of n bodies, one after the other.
 fn write_hashes(out: &mut [u8], n: u8, size: u32, fragments: &[u8])
-    requires out_len { (length out.old ≡ 32 * n) × (size ≤ longest_body) }
+    requires out_len { length out.old ≡ 32 * n }
     requires size_in_bounds { n * layout.record_length layout.written_version size ≤ length fragments.now }
     ensures { out.new ≡ end_to_end (listed n (λ i. SHA_256 (cut.body_among size fragments.now i))) }
 {
     let mut i: u8 = 0;
     while i < n {
-        let hashed = sha256::sha256(body_among(size, fragments, i));
+        let digest = sha256::digest(body_among(size, fragments, i));
         let start = 32 * (i as usize);
         let end = start + 32;
-        let digest = hashed.digest;
         record::put(&mut out[start..end], &digest);
         i += 1;
     }
@@ -78,15 +78,4 @@ fn write_prints(out: &mut [u8], m: u8, size: u32, y: Column, fragments: &[u8])
         record::put(&mut out[start..end], &[print.a, print.b, print.c]);
         j += 1;
     }
-}
-
-// The body of record `index`, where it stands.
-fn body_among(size: u32, fragments: &[u8], index: u8) -> &[u8]
-    requires { index * layout.record_length layout.written_version size + layout.record_length layout.written_version size ≤ length fragments.now }
-    ensures { result.now ≡ cut.body_among size fragments.now index }
-{
-    let start = (index as usize) * record::record_length(WRITTEN_VERSION, size)
-        + record::body_place(WRITTEN_VERSION);
-    let end = start + size as usize;
-    &fragments[start..end]
 }

@@ -6,10 +6,11 @@ use native.Mathlib.Omega.{arith}
 use lib.ListN.{length, get_or, drop}
 use lib.Seq.{drop-length}
 use borrow.Author.Tests.{eq-eqb, ne_eqb}
+use Rattle.std.specs.Prelude.{Option, Some, None}
 use Rattle.algebra.specs.Polynomial.{nodal, spread_but}
 use Rattle.algebra.proofs.Several.{dropped}
 use Rattle.algebra.proofs.Lagrange.{but_same, but_other}
-use Rattle.field.specs.Byte.{plus, times, power, Powers, at_place, bytes}
+use Rattle.field.specs.Byte.{plus, times, power, Powers, at_place, product_at, bytes}
 use Rattle.field.proofs.Product.{none_times, times_none}
 use Rattle.field.proofs.Laws.{times_unit}
 use Rattle.field.proofs.Power.{power_lt, power_add, power_back}
@@ -18,50 +19,59 @@ at_power : (k : ℕ) → k < 255 → at_place k ≡ power 3 k
 unfolding at_place
 at_power k h = rw (ne_eqb k 255 (omega arith), at_place)
 
-pub at_zero : (k : ℕ) → k ≡ 255 → at_place k ≡ 0
+at_zero : (k : ℕ) → k ≡ 255 → at_place k ≡ 0
 unfolding at_place
 at_zero k e = rw (eq-eqb k 255 e, at_place)
 
-pub at_start : at_place 0 ≡ 1
-unfolding at_place power
+pub at_start : product_at (Some 0) ≡ 1
+unfolding product_at at_place power
 at_start = refl
 
--- what is read in a table of powers at a place
-pub look_place : (t : List ℕ) → Powers t → (k : ℕ) → k < 255 → get_or t k 0 ≡ at_place k
+-- a product under way: with a place below 255 it is that power of 03, with none it is 00
+pub with_place : (k : ℕ) → k < 255 → product_at (Some k) ≡ power 3 k
+unfolding product_at
+with_place = at_power
+
+pub without : product_at None ≡ 0
+unfolding product_at
+without = at_zero 255 refl
+
+-- what is read in a table of powers at its place
+pub look_place : (t : List ℕ) → Powers t → (product : Option ℕ) (k : ℕ) → product ≡ Some k → k < 255 → get_or t k 0 ≡ product_at product
 unfolding Powers
-look_place t rule k h = rule k (omega arith) ∙ sym (at_power k h)
+look_place t rule product k e h = rule k (omega arith) ∙ sym (ap product_at e ∙ with_place k h)
 
-module _ (product factor : ℕ) where
+module _ (product : Option ℕ) (factor : ℕ) where
   -- a product with 00 before, or by 00
-  pub grown_zero : product ≡ 255 → at_place 255 ≡ times factor (at_place product)
-  grown_zero e = at_zero 255 refl ∙ sym (ap (times factor) (at_zero product e) ∙ times_none factor)
+  pub grown_zero : product ≡ None → product_at None ≡ times factor (product_at product)
+  grown_zero e = without ∙ sym (ap (times factor) (ap product_at e ∙ without) ∙ times_none factor)
 
-  pub grown_none : factor ≡ 0 → at_place 255 ≡ times factor (at_place product)
-  grown_none e = at_zero 255 refl ∙ sym (ap (λ (x : ℕ). times x (at_place product)) e ∙ none_times (at_place product))
+  pub grown_none : factor ≡ 0 → product_at None ≡ times factor (product_at product)
+  grown_none e = without ∙ sym (ap (λ (x : ℕ). times x (product_at product)) e ∙ none_times (product_at product))
 
-  module _ (j : ℕ) (h : product < 255) (e : power 3 j ≡ factor) where
-    powers_meet : power 3 (j + product) ≡ times factor (at_place product)
-    powers_meet = power_add 3 j product (omega arith) ∙ ap₂ times e (sym (at_power product h))
+  module _ (j k : ℕ) (is : product ≡ Some k) (h : k < 255) (e : power 3 j ≡ factor) where
+    powers_meet : power 3 (j + k) ≡ times factor (product_at product)
+    powers_meet = power_add 3 j k (omega arith) ∙ ap₂ times e (sym (ap product_at is ∙ with_place k h))
 
-    pub grown_within : j + product < 255 → at_place (j + product) ≡ times factor (at_place product)
-    grown_within l = at_power (j + product) l ∙ powers_meet
+    pub grown_within : j + k < 255 → product_at (Some (j + k)) ≡ times factor (product_at product)
+    grown_within l = with_place (j + k) l ∙ powers_meet
 
-    pub grown_over : j < 255 → 255 ≤ j + product → at_place (j + product - 255) ≡ times factor (at_place product)
+    pub grown_over : j < 255 → 255 ≤ j + k → product_at (Some (j + k - 255)) ≡ times factor (product_at product)
     grown_over hj g =
-        at_power (j + product - 255) (omega arith)
-        ∙ sym (times_unit _ (power_lt 3 (j + product - 255))) ∙ ap (times (power 3 (j + product - 255))) (sym power_back)
-        ∙ sym (power_add 3 (j + product - 255) 255 (omega arith))
-        ∙ ap (power 3) (let z : j + product - 255 + 255 ≡ j + product = omega arith in z) ∙ powers_meet
+        with_place (j + k - 255) (omega arith)
+        ∙ sym (times_unit _ (power_lt 3 (j + k - 255))) ∙ ap (times (power 3 (j + k - 255))) (sym power_back)
+        ∙ sym (power_add 3 (j + k - 255) 255 (omega arith))
+        ∙ ap (power 3) (let z : j + k - 255 + 255 ≡ j + k = omega arith in z) ∙ powers_meet
 
 -- over no points, where the walks begin, and over all of them, where they end
-pub none_nodal : (ps : List ℕ) (t : ℕ) → at_place 0 ≡ nodal bytes (drop (length ps) ps) t
+pub none_nodal : (ps : List ℕ) (t : ℕ) → product_at (Some 0) ≡ nodal bytes (drop (length ps) ps) t
 unfolding nodal
 none_nodal ps t = at_start ∙ sym (ap (λ (l : List ℕ). nodal bytes l t) (drop-length ps))
 
 pub all_nodal : (ps : List ℕ) (k t r : ℕ) → k ≤ 0 → r ≡ nodal bytes (drop k ps) t → r ≡ nodal bytes ps t
 all_nodal ps k t r h e = e ∙ ap (λ (n : ℕ). nodal bytes (drop n ps) t) (let z : k ≡ 0 = omega arith in z)
 
-pub none_spread : (ps : List ℕ) (p t : ℕ) → at_place 0 ≡ spread_but bytes (drop (length ps) ps) p t
+pub none_spread : (ps : List ℕ) (p t : ℕ) → product_at (Some 0) ≡ spread_but bytes (drop (length ps) ps) p t
 unfolding spread_but
 none_spread ps p t = at_start ∙ sym (ap (λ (l : List ℕ). spread_but bytes l p t) (drop-length ps))
 

@@ -1,5 +1,5 @@
 -- Bytes as a field, on the numbers 0 to 255 that stand for them: FIPS 197 (2001), sections 4.1, 4.2 and 4.2.1.
-use Rattle.std.specs.Prelude.{◌≡◌, ◌≢◌, ℕ, zero, suc, ◌*◌, ◌/◌, ◌%◌, ◌<◌, true, false, cond, List, [], ◌∷◌, ◌++◌, eqb, get_or}
+use Rattle.std.specs.Prelude.{◌≡◌, ◌≢◌, ℕ, zero, suc, ◌*◌, ◌/◌, ◌%◌, ◌<◌, true, false, cond, List, [], ◌∷◌, ◌++◌, eqb, get_or, Option, Some, None}
 use Rattle.std.specs.Int.Bits.{bit_xor}
 use Rattle.algebra.specs.Carrier.{Carrier}
 
@@ -36,6 +36,11 @@ Places t = (a : ℕ) → a < 256 → (get_or t a 0 < 255) × (a ≢ 0 → power 
 -- the byte at a place; 255 stands for {00}, which has none
 unfoldable pub at_place : ℕ → ℕ
 at_place k = cond (eqb k 255) 0 (power 3 k)
+
+-- the byte of a product that is kept as its place; one that has none is {00}
+unfoldable pub product_at : Option ℕ → ℕ
+product_at (Some k) = at_place k
+product_at None = at_place 255
 
 -- the largest b below n with a • b = {01}; {00} where there is none
 unfoldable pub inverse_below : ℕ → ℕ → ℕ

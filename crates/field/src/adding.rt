@@ -15,10 +15,8 @@ pub fn add_products(sum: &mut [u8], factors: &[u8], by: u8)
     let places = places();
     let at = place(&places, by);
     let table = powers();
-    let mut k = 0;
-    while k < sum.len() && k < factors.len() {
-        sum[k] = sum[k] ^ multiple(&places, &table, at, factors[k]);
-        k += 1;
+    for k in 0..sum.len().min(factors.len()) {
+        sum[k] ^= multiple(&places, &table, at, factors[k]);
     }
 }
 
@@ -29,6 +27,6 @@ fn multiple(places: &[u8; 256], table: &[u8; 510], at: usize, factor: u8) -> u8
     requires at_bound { at < 255 }
     ensures { result ≡ byte.times (byte.power 3 at) factor }
 {
-    let counts = (factor != 0) as u8;
+    let counts = u8::from(factor != 0);
     counts * table[at + place(places, factor)]
 }

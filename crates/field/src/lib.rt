@@ -12,7 +12,7 @@ ghost use Rattle.field.specs.Byte as byte;
 
 pub use adding::add_products;
 pub use many::{nodal, spread_but};
-use tables::{place, places, powers, wide};
+use tables::{place, places, powers};
 
 pub fn plus(a: u8, b: u8) -> u8
     ensures { result ≡ byte.plus a b }
@@ -72,10 +72,8 @@ pub fn row(by: u8) -> [u8; 256]
     let places = places();
     let at = place(&places, by);
     let table = powers();
-    let mut k = 0;
-    while k < 255 {
-        out[wide(table[k])] = table[at + k];
-        k += 1;
+    for k in 0..255 {
+        out[usize::from(table[k])] = table[at + k];
     }
     out
 }

@@ -1,5 +1,5 @@
-// Products over many points. A product under way is kept as its place, 255 where a factor was 0.
-ghost use Rattle.std.specs.Prelude.{◌≡◌, ◌≤◌};
+// Products over many points. A product under way is kept as its place among the powers of 03; it has none once a factor was 0.
+ghost use Rattle.std.specs.Prelude.{◌≡◌, ◌<◌, IfSome};
 ghost use Rattle.algebra.specs.Polynomial as polynomial;
 ghost use Rattle.field.specs.Byte as byte;
 
@@ -11,10 +11,8 @@ pub fn nodal(points: &[u8], t: u8) -> u8
     ensures { result ≡ polynomial.nodal byte.bytes points.now t }
 {
     let at = places();
-    let mut product = 0;
-    let mut k = points.len();
-    while k > 0 {
-        k -= 1;
+    let mut product = Some(0);
+    for k in (0..points.len()).rev() {
         product = grown(&at, product, plus(t, points[k]));
     }
     settled(product)
@@ -25,10 +23,8 @@ pub fn spread_but(points: &[u8], p: u8, t: u8) -> u8
     ensures { result ≡ polynomial.spread_but byte.bytes points.now p t }
 {
     let at = places();
-    let mut product = 0;
-    let mut k = points.len();
-    while k > 0 {
-        k -= 1;
+    let mut product = Some(0);
+    for k in (0..points.len()).rev() {
         let q = points[k];
         if p != q {
             product = grown(&at, product, plus(t, q));
@@ -38,31 +34,26 @@ pub fn spread_but(points: &[u8], p: u8, t: u8) -> u8
 }
 
 // One factor more: the powers of 03 repeat after 255.
-fn grown(places: &[u8; 256], product: usize, factor: u8) -> usize
+fn grown(places: &[u8; 256], product: Option<usize>, factor: u8) -> Option<usize>
     requires places { byte.Places places.now }
-    requires product_bound { product ≤ 255 }
-    ensures { (result ≤ 255) × (byte.at_place result ≡ byte.times factor (byte.at_place product)) }
+    requires product_bound { IfSome product (λ k. k < 255) }
+    ensures bound { IfSome result (λ k. k < 255) }
+    ensures value { byte.product_at result ≡ byte.times factor (byte.product_at product) }
 {
-    if product == 255 {
-        return 255;
-    }
+    let product = product?;
     if factor == 0 {
-        return 255;
+        return None;
     }
     let sum = place(places, factor) + product;
-    if sum < 255 {
-        return sum;
-    }
-    sum - 255
+    Some(if sum < 255 { sum } else { sum - 255 })
 }
 
-fn settled(product: usize) -> u8
-    requires { product ≤ 255 }
-    ensures { result ≡ byte.at_place product }
+fn settled(product: Option<usize>) -> u8
+    requires { IfSome product (λ k. k < 255) }
+    ensures { result ≡ byte.product_at product }
 {
-    if product == 255 {
-        return 0;
+    match product {
+        Some(place) => powers()[place],
+        None => 0,
     }
-    let table = powers();
-    table[product]
 }

@@ -9,10 +9,9 @@ use Rattle.column.specs.declared.Column.{Column}
 use Rattle.limits.specs.Limits.{longest_body, largest_seed}
 use Rattle.column.specs.Column.{times, from_seed}
 use Rattle.algebra.specs.Several.{All}
-use Rattle.fingerprint.specs.declared.Fingerprinted.{Fingerprinted}
 use Rattle.fingerprint.specs.Fingerprint.{columns_of, fingerprint_at}
 use Rattle.fingerprint.specs.Horner.{table_of, evaluated}
-use Rattle.fingerprint.specs.Answer.{refused, fingerprinted}
+use Rattle.fingerprint.specs.Answer.{Fingerprinted, refused, fingerprinted}
 use Rattle.fingerprint.proofs.Packing.{Bytes}
 use Rattle.fingerprint.proofs.Lookups.{by_table}
 

@@ -13,42 +13,24 @@ ghost use Rattle.fingerprint.specs.Horner as horner;
 ghost use Rattle.fingerprint.specs.Answer as answer;
 
 use column::Column;
+use refusal::Refusal;
 
-// A number of the table of what comes back, and the fingerprint; beside a refusal the zero column.
-#[derive(Clone, Copy)]
-pub struct Fingerprinted {
-    pub number: u8,
-    pub column: Column,
-}
-
-// The fingerprint of a body at a seed number.
-pub fn fingerprint(seed: u32, body: &[u8]) -> Fingerprinted
-    ensures { result ≡ answer.fingerprinted seed body.now }
+// The fingerprint of a body at a seed number; refused by 2, 3 and 4 as they apply.
+pub fn fingerprint(seed: u32, body: &[u8]) -> Result<Column, Refusal>
+    ensures { answer.numbers_of result ≡ answer.fingerprinted seed body.now }
 {
     if body.len() > limits::LONGEST_BODY {
-        return refused(2);
+        return Err(Refusal::TooLong);
     }
     if seed > limits::LARGEST_SEED {
-        return refused(3);
+        return Err(Refusal::SeedTooLarge);
     }
     if body.len() % 3 != 0 {
-        return refused(4);
+        return Err(Refusal::WrongLength);
     }
     let y = Column::from_seed(seed);
     let entries = table(y.times(y));
-    Fingerprinted {
-        number: 0,
-        column: evaluated(&entries, y, body),
-    }
-}
-
-fn refused(number: u8) -> Fingerprinted
-    ensures { result ≡ answer.refused number }
-{
-    Fingerprinted {
-        number,
-        column: Column::ZERO,
-    }
+    Ok(evaluated(&entries, y, body))
 }
 
 // For each byte k the multiples by k of y, of x y and of x^2 y. The bytes of the two others are sums of y's, and so are their rows.

@@ -1,6 +1,4 @@
-pub mod Used
+pub mod Uses
 pub mod Reading
-pub mod Holding
 pub mod Places
-pub mod Next
 pub mod Whole

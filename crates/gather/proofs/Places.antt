@@ -1,5 +1,5 @@
 -- Where records lie: a stride is never zero and fits, and each of the records counted lies within them. And m, a byte, is at most 255.
-use mathlib.Core.Path.{◌≡◌, sym, ap, ap₂, subst, ◌∙◌}
+use mathlib.Core.Path.{◌≡◌, refl, sym, ap, ap₂, subst, ◌∙◌}
 use mathlib.Core.List.{List}
 use Prim.Native.Nat.{ℕ, suc, ◌+◌, ◌-◌, ◌*◌, ◌^◌, ◌<◌, ◌≤◌}
 use native.Mathlib.Nat.{lt_of_lt_of_le, div-le_self, le-div_iff_mul-le, suc-mul}
@@ -22,9 +22,9 @@ unfolding stride size_of
 stride_is check h e at size ea es =
     ap₂ ◌+◌ ea es ∙ ap (λ (c : CheckHead). body_place c.version + body_length c.length c.m) e
 
-pub some_stride : (check : List ℕ) → 0 < stride check
+pub some_stride : (check : List ℕ) (s : ℕ) → s ≡ stride check → 0 < s
 unfolding stride head
-some_stride check = omega arith
+some_stride check s e = omega (arith, e)
 
 pub m_fits : (check : List ℕ) → ((i : ℕ) → get_or check i 0 < 256) → (check_head_of check).m ≤ 255
 unfolding check_head_of
@@ -34,7 +34,7 @@ module _ (check records : List ℕ) where
   pub place_within : (k size : ℕ) → size ≡ stride check → k < count_of check records → k * size + size ≤ length records
   unfolding count_of
   place_within k size e h =
-      subst (λ (n : ℕ). n ≤ length records) (ap (λ (s : ℕ). suc k * s) (sym e) ∙ suc-mul k size) ((le-div_iff_mul-le (some_stride check)).0 h)
+      subst (λ (n : ℕ). n ≤ length records) (ap (λ (s : ℕ). suc k * s) (sym e) ∙ suc-mul k size) ((le-div_iff_mul-le (some_stride check (stride check) refl)).0 h)
 
   pub place_below : (k : ℕ) → k < count_of check records → k < length records
   unfolding count_of

@@ -10,8 +10,9 @@ use lib.Dec.{eqb}
 use lib.ListN.{length}
 use borrow.Author.Tests.{eq-eqb, ne_eqb}
 use Rattle.record.specs.Heads.{check_head_of}
-use Rattle.gather.specs.Gather.{Used, has_index, used, last_place, read_count}
-use Rattle.gather.proofs.Used.{answer_at, takes}
+use Rattle.gather.specs.declared.Used.{Used}
+use Rattle.gather.specs.Gather.{has_index, used, last_place, read_count}
+use Rattle.gather.proofs.Uses.{answer_at, takes}
 
 last_place_is : (us : List Used) (u : Used) → last_place (us ++ (u ∷ [])) ≡ suc u.place
 unfolding last_place

@@ -1,17 +1,23 @@
 -- The whole of a reading: what holds from its start on, after each record, and that what is held at its end is what is gathered.
-use mathlib.Core.Path.{◌≡◌, refl, sym, ap, ap₂, subst, ◌∙◌}
-use mathlib.Core.List.{List}
-use Prim.Native.Nat.{ℕ, ◌+◌, ◌<◌, ◌≤◌}
-use native.Mathlib.Nat.{le_trans, le_antisymm, le_of_eq, lt_of_le_of_lt}
-use native.Mathlib.Numerals.{add-one}
-use native.Mathlib.Omega.{arith}
-use lib.ListN.{length, replicate}
+use mathlib.Core.Path.{◌≡◌, sym, ap, subst, ◌∙◌}
+use mathlib.Core.Bool.{Bool, true, false}
+use mathlib.Core.List.{List, [], ◌∷◌, ◌++◌}
+use Prim.Native.Nat.{ℕ, suc, ◌+◌, ◌-◌, ◌*◌, ◌<◌, ◌≤◌}
+use native.Mathlib.Numerals.{add-one, lt_of_le_of_ne}
+use lib.Dec.{eqb}
+use lib.ListN.{length, take, drop}
 use Rattle.record.specs.Heads.{check_head_of}
-use Rattle.gather.specs.declared.Gathered.{Gathered}
-use Rattle.gather.specs.Gather.{used, count_of, read_count, of_255, held, gathered}
-use Rattle.gather.proofs.Used.{sound}
-use Rattle.gather.proofs.Reading.{no_more, read_none, read_next, read_all}
-use Rattle.gather.proofs.Holding.{count_held}
+use Rattle.inspect.specs.declared.Reason.{Reason}
+use Rattle.inspect.specs.declared.Verdict.{Verdict}
+use Rattle.inspect.specs.declared.Verdict.TheVariants.{Accepted, Refused}
+use Rattle.inspect.specs.Answer.{Answer, answer}
+use Rattle.inspect.specs.Check.{checked}
+use Rattle.inspect.proofs.Opening.{no_zero}
+use Rattle.gather.specs.declared.Used.{Used}
+use Rattle.gather.specs.Gather.{stride, has_index, used, count_of, read_count, gathered}
+use Rattle.gather.proofs.Uses.{answer_at, sound}
+use Rattle.gather.proofs.Places.{part_is}
+use Rattle.gather.proofs.Reading.{no_more, refused_passes, known_passes, other_used, read_none, read_next, read_all}
 
 module _ (wanted : ℕ) (check records : List ℕ) where
   abbrev m : ℕ
@@ -20,51 +26,78 @@ module _ (wanted : ℕ) (check records : List ℕ) where
   abbrev all : ℕ
   all = count_of check records
 
-  -- the first records are read, and would be counted so if there were no others
-  pub record Read (g : Gathered) : Type 0 where
-    pub so_far : g ≡ held (used wanted check records g.read) g.read
-    pub counted : read_count m (used wanted check records g.read) g.read ≡ g.read
-    pub within : g.read ≤ all
+  abbrev us : ℕ → List Used
+  us k = used wanted check records k
 
-  pub starts : Read (record { count = 0; read = 0; indexes = replicate 255 0; places = replicate 255 0 })
-  unfolding used held of_255
-  starts = record { so_far = refl; counted = read_none m; within = omega arith }
+  -- the first k records are read, and would be counted so if there were no others
+  pub record Read (held : List Used) (k : ℕ) : Type 0 where
+    pub so_far : held ≡ us k
+    pub counted : read_count m (us k) k ≡ k
+    pub at_most : length held ≤ m
 
-  module _ (g : Gathered) (reading : Read g) where
-    abbrev k : ℕ
-    k = g.read
+  read_to : (held : List Used) (k : ℕ) → held ≡ us k → read_count m (us k) k ≡ k → Read held k
+  read_to held k e counted =
+      record {
+        so_far = e;
+        counted = counted;
+        at_most = subst (λ (l : List Used). length l ≤ m) (sym e) (sound wanted check records k).at_most;
+      }
 
-    used_so_far : g.count ≡ length (used wanted check records k)
-    used_so_far = count_held g _ reading.so_far
+  pub starts : (held : List Used) → held ≡ [] → Read held 0
+  unfolding used
+  starts held e = read_to held 0 e (read_none m)
 
-    pub goes_on : k < all → g.count < m → (r : Gathered) → r ≡ held (used wanted check records (k + 1)) (k + 1) → Read r × (r.read ≡ k + 1)
-    unfolding held
-    goes_on h fewer r e = (subst Read (sym e) next, ap (λ (x : Gathered). x.read) e)
-      where
-        next : Read (held (used wanted check records (k + 1)) (k + 1))
-        next =
-            record {
-              so_far = refl;
-              counted = subst (λ (n : ℕ). read_count m (used wanted check records n) n ≡ n) (sym (add-one k))
-                  (read_next wanted check records k (lt_of_le_of_lt (le_of_eq (sym used_so_far)) fewer));
-              within = omega arith;
-            }
+  module _ (held : List Used) (k : ℕ) (R : Read held k) where
+    -- one record more, where fewer than m are used
+    module _ (short : length held ≡ m → ⊥) where
+      fewer : length (us k) < m
+      fewer = subst (λ (l : List Used). length l < m) R.so_far (lt_of_le_of_ne R.at_most short)
+
+      goes_on : (next : List Used) → next ≡ us (suc k) → Read next (k + 1)
+      goes_on next e =
+          subst (Read next) (sym (add-one k)) (read_to next (suc k) e (read_next wanted check records k fewer))
+
+      module _ (size start end : ℕ) (es : size ≡ stride check) (ea : start ≡ k * size) (ee : end ≡ start + size)
+          (v : Verdict) (told : answer v ≡ checked wanted check (take (end - start) (drop start records))) where
+        answered : (w : Verdict) → v ≡ w → answer_at wanted check records k ≡ answer w
+        answered w e = ap (checked wanted check) (sym (part_is check records k size start end es ea ee)) ∙ sym told ∙ ap answer e
+
+        pub next_refused : (reason : Reason) → v ≡ Refused reason → Read held (k + 1)
+        next_refused reason ev =
+            goes_on held (R.so_far ∙ sym (refused_passes wanted check records k (ap (λ (a : Answer). eqb a.number 0) (answered (Refused reason) ev) ∙ no_zero reason)))
+
+        module _ (i : ℕ) (ev : v ≡ Accepted i) (seen : List Used) (lent : seen ≡ held) (b : Bool) (has : b ≡ has_index i seen) where
+          value : (answer_at wanted check records k).value ≡ i
+          value = ap (λ (a : Answer). a.value) (answered (Accepted i) ev)
+
+          among : (x : Bool) → b ≡ x → has_index (answer_at wanted check records k).value (us k) ≡ x
+          among x e = (λ j. has_index (value j) (sym (lent ∙ R.so_far) j)) ∙ sym has ∙ e
+
+          pub next_known : b ≡ true → Read held (k + 1)
+          next_known e = goes_on held (R.so_far ∙ sym (known_passes wanted check records k (among true e)))
+
+          pub next_used : b ≡ false → Read (held ++ (record { index = i; place = k } ∷ [])) (k + 1)
+          next_used e =
+              goes_on _ (
+              (λ j. R.so_far j ++ (record { index = sym value j; place = k } ∷ []))
+              ∙ sym (other_used wanted check records k fewer (ap (λ (a : Answer). a.number) (answered (Accepted i) ev)) (among false e)))
 
     -- at the m-th that is used
-    pub ends_full : m ≤ g.count → g ≡ gathered wanted check records
+    pub ends_full : (n : ℕ) → n ≡ k → k ≤ all → length held ≡ m → record { read = n; used = record { items = held } } ≡ gathered wanted check records
     unfolding gathered
-    ends_full h =
-        reading.so_far
-        ∙ ap₂ held (sym (no_more wanted check records k all reading.within full))
-        (sym (read_all wanted check records k all reading.within full reading.counted))
+    ends_full n here within h =
+        (λ j. record {
+          read = (here ∙ sym (read_all wanted check records k all within full R.counted)) j;
+          used = record { items = (R.so_far ∙ sym (no_more wanted check records k all within full)) j };
+        })
       where
-        full : length (used wanted check records k) ≡ m
-        full = le_antisymm (sound wanted check records k).at_most (le_trans h (le_of_eq used_so_far))
+        full : length (us k) ≡ m
+        full = sym (ap length R.so_far) ∙ h
 
     -- at the last of all
-    pub ends_last : all ≤ k → g ≡ gathered wanted check records
+    pub ends_last : (n : ℕ) → n ≡ all → n ≡ k → record { read = n; used = record { items = held } } ≡ gathered wanted check records
     unfolding gathered
-    ends_last h =
-        reading.so_far
-        ∙ ap (held (used wanted check records k)) (sym reading.counted)
-        ∙ ap (λ (n : ℕ). held (used wanted check records n) (read_count m (used wanted check records n) n)) (le_antisymm reading.within h)
+    ends_last n last h =
+        (λ j. record { read = h j; used = record { items = R.so_far j } })
+        ∙ (λ j. record { read = sym R.counted j; used = record { items = us k } })
+        ∙ ap (λ (i : ℕ). record { read = read_count m (us i) i; used = record { items = us i } }) (sym h ∙ last)

@@ -1,9 +1,11 @@
 -- Gathering: "It reads records in order, passes over refused ones and those whose index it already has, and stops at the m-th it uses."
-use Rattle.std.specs.Prelude.{Bool, false, not, ◌&&◌, ◌||◌, cond, List, [], ◌∷◌, ◌++◌, map, ℕ, zero, suc, ◌-◌, ◌*◌, ◌/◌, eqb, length, take, drop, replicate}
+use Rattle.std.specs.Prelude.{Bool, not, ◌&&◌, ◌==◌, cond, List, [], ◌∷◌, ◌++◌, ℕ, zero, suc, ◌*◌, ◌/◌, eqb, length, take, drop}
+use Rattle.std.specs.List.{list_any}
 use Rattle.record.specs.Layout.{record_length}
 use Rattle.record.specs.Heads.{check_head_of}
 use Rattle.inspect.specs.Check.{size_of, checked}
 use Rattle.gather.specs.declared.Gathered.{Gathered}
+use Rattle.gather.specs.declared.Used.{Used}
 
 -- how long each of the records is: 18 + F
 unfoldable pub stride : List ℕ → ℕ
@@ -13,14 +15,8 @@ stride check = record_length (check_head_of check).version (size_of check)
 unfoldable pub record_at : List ℕ → List ℕ → ℕ → List ℕ
 record_at check records k = take (stride check) (drop (k * stride check) records)
 
--- a record that is used: its index, and its place among the records, from 0
-pub record Used : Type 0 where
-  pub index : ℕ
-  pub place : ℕ
-
-unfoldable pub has_index : ℕ → List Used → Bool
-has_index i [] = false
-has_index i (u ∷ us) = eqb i u.index || has_index i us
+abbrev pub has_index : ℕ → List Used → Bool
+has_index i us = list_any (λ u. i == u.index) us
 
 -- what is used of the first k records
 unfoldable pub used : ℕ → List ℕ → List ℕ → ℕ → List Used
@@ -45,23 +41,9 @@ last_place (u ∷ v ∷ us) = last_place (v ∷ us)
 unfoldable pub read_count : ℕ → List Used → ℕ → ℕ
 read_count m us k = cond (eqb (length us) m) (last_place us) k
 
--- numbers at the start of 255, zeros behind them
-unfoldable pub of_255 : List ℕ → List ℕ
-of_255 l = l ++ replicate (255 - length l) 0
-
--- what is held of these used records when so many are read
-unfoldable pub held : List Used → ℕ → Gathered
-held us read =
-    record {
-      count = length us;
-      read = read;
-      indexes = of_255 (map (λ u. u.index) us);
-      places = of_255 (map (λ u. u.place) us);
-    }
-
 -- what is gathered of all the records
 unfoldable pub gathered : ℕ → List ℕ → List ℕ → Gathered
 gathered wanted check records =
     let k = count_of check records in
     let us = used wanted check records k in
-    held us (read_count (check_head_of check).m us k)
+    record { read = read_count (check_head_of check).m us k; used = record { items = us } }

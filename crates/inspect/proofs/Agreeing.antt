@@ -6,9 +6,7 @@ use Prim.Native.Nat.{ℕ, ◌+◌, ◌*◌, ◌-◌, ◌<◌, ◌≤◌}
 use native.Mathlib.Omega.{arith}
 use lib.Dec.{eqb}
 use lib.ListN.{length, take, drop}
-use borrow.Author.Tests.{le-ltb}
 use borrow.Author.Rules.{part_to_end}
-use Rattle.limits.specs.Limits.{longest_body}
 use Rattle.algebra.specs.Several.{All}
 use Rattle.column.specs.declared.Column.{Column}
 use Rattle.column.specs.Column.{times, columns}
@@ -16,9 +14,7 @@ use Rattle.fingerprint.specs.Fingerprint.{columns_of, fingerprint_at, called_for
 use Rattle.fingerprint.specs.Horner.{table_of, evaluated}
 use Rattle.fingerprint.proofs.Packing.{Bytes}
 use Rattle.fingerprint.proofs.Lookups.{by_table}
-use Rattle.sha256.specs.declared.Hashed.{Hashed}
 use Rattle.sha256.specs.Fips180.{SHA_256}
-use Rattle.sha256.specs.Hash.{answered}
 use Rattle.record.specs.declared.CheckHead.{CheckHead}
 use Rattle.record.specs.Layout.{hashes_place, prints_place}
 use Rattle.record.specs.Heads.{check_head_of}
@@ -34,21 +30,16 @@ same_test xs ys false to from = go (same_bytes xs ys) refl
     go true e = from (same_sound xs ys e)
     go false e = refl
 
--- a body that is not too long is hashed
-hashed_body : (body : List ℕ) → length body ≤ longest_body → (answered body).digest ≡ SHA_256 body
-unfolding answered
-hashed_body body h = simp (le-ltb _ _ h)
-
 module _ (check body : List ℕ) (h : CheckHead) (eh : h ≡ check_head_of check) (index at : ℕ) where
-  pub hash_test : (hashed : Hashed) (r : Bool) → length body ≤ longest_body → hashed ≡ answered body
+  pub hash_test : (digest : List ℕ) (r : Bool) → digest ≡ SHA_256 body
       → at ≡ hashes_place h.version + 32 * index
-      → (r ≡ true → hashed.digest ≡ take (at + 32 - at) (drop at check)) × (hashed.digest ≡ take (at + 32 - at) (drop at check) → r ≡ true)
+      → (r ≡ true → digest ≡ take (at + 32 - at) (drop at check)) × (digest ≡ take (at + 32 - at) (drop at check) → r ≡ true)
       → r ≡ hash_agrees check index body
   unfolding hash_agrees hash_of
-  hash_test hashed r fits e ea same =
+  hash_test digest r e ea same =
       let count : at + 32 - at ≡ 32 = omega arith in
-      same_test hashed.digest (take (at + 32 - at) (drop at check)) r same.0 same.1
-      ∙ ap₂ same_bytes (ap (λ (d : Hashed). d.digest) e ∙ hashed_body body fits)
+      same_test digest (take (at + 32 - at) (drop at check)) r same.0 same.1
+      ∙ ap₂ same_bytes e
       (ap₂ (λ (k p : ℕ). take k (drop p check)) count (ea ∙ ap (λ (g : CheckHead). hashes_place g.version + 32 * index) eh))
 
   pub print_test : (z : Column) (t : List ℕ) (u w : Column) → Bytes h.seed → All (λ n. n < 256) body

@@ -3,6 +3,7 @@
 #![tactic(auto)]
 
 mod agree;
+mod refused;
 
 ghost use Rattle.std.specs.Prelude.{◌≡◌, ◌+◌};
 ghost use Rattle.inspect.specs.Answer.{answer};

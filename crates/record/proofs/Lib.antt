@@ -1,8 +1,7 @@
 pub mod Accepted
 pub mod Buffer
+pub mod Bytes
 pub mod Counts
-pub mod Fields
-pub mod Front
 pub mod Head
 pub mod Numbers
 pub mod ReadBack

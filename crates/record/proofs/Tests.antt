@@ -4,18 +4,13 @@ use mathlib.Core.Bool.{Bool, true, false, ◌&&◌}
 use mathlib.Core.List.{List}
 use Prim.Native.Nat.{ℕ}
 use lib.Dec.{eqb, leb}
-use lib.ListN.{length, get_or}
+use lib.ListN.{length}
 use borrow.Author.Tests.{eqb-true}
 use Rattle.limits.specs.Limits.{longest_block}
 use Rattle.record.specs.declared.CheckHead.{CheckHead}
 use Rattle.record.specs.declared.FragmentHead.{FragmentHead}
 use Rattle.record.specs.Layout.{check_mark, fragment_mark, number_place, known, hashes_place, check_length, body_place, record_length}
 use Rattle.record.specs.Heads.{version_of, check_head_of, fragment_head_of, marked, check_marked, counts_fit, check_shaped, fragment_shaped}
-
-pub marked_test : (mark l : List ℕ) (a b c : ℕ) → a ≡ get_or l 0 0 → b ≡ get_or l 1 0 → c ≡ get_or l 2 0
-    → eqb a (get_or mark 0 0) && (eqb b (get_or mark 1 0) && eqb c (get_or mark 2 0)) ≡ marked mark l
-unfolding marked
-marked_test mark l a b c p q r = λ i. eqb (p i) (get_or mark 0 0) && (eqb (q i) (get_or mark 1 0) && eqb (r i) (get_or mark 2 0))
 
 pub check_marked_test : (l : List ℕ) (mark knows : Bool) (v : ℕ) → mark ≡ marked check_mark l → v ≡ version_of l → knows ≡ known v
     → leb number_place (length l) && (mark && knows) ≡ check_marked l

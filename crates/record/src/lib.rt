@@ -32,7 +32,7 @@ pub struct CheckHead {
 }
 
 // What stands before the body of a fragment record.
-#[derive(Clone, Copy)]
+#[derive(Clone, Copy, Debug, PartialEq, Eq, Hash)]
 pub struct FragmentHead {
     pub version: u16,
     pub number: u64,

@@ -1,5 +1,7 @@
 // The versions, and where the parts of the two records stand. What depends on the version goes through `head`; every other place counts
 // from there.
+#![tactic(auto, unfolding(crate::specs::Layout::head))]
+
 ghost use Rattle.std.specs.Prelude.{◌≡◌, ◌+◌, ◌*◌};
 ghost use Rattle.record.specs.Layout as layout;
 
@@ -7,9 +9,9 @@ ghost use Rattle.record.specs.Layout as layout;
 pub const WRITTEN_VERSION: u16 = 1;
 
 // In every version.
-pub const CHECK_MARK: [u8; 3] = [b'L', b'C', b'K'];
+pub const CHECK_MARK: [u8; 3] = *b"LCK";
 
-pub const FRAGMENT_MARK: [u8; 3] = [b'L', b'F', b'R'];
+pub const FRAGMENT_MARK: [u8; 3] = *b"LFR";
 
 pub(crate) const VERSION_AT: usize = 3;
 
@@ -57,7 +59,7 @@ pub(crate) fn hashes_place(version: u16) -> usize
 pub fn hash_place(version: u16, index: u8) -> usize
     ensures { result ≡ layout.hashes_place version + 32 * index }
 {
-    hashes_place(version) + HASH_BYTES * (index as usize)
+    hashes_place(version) + HASH_BYTES * usize::from(index)
 }
 
 // Where the fingerprints start: behind the last of n hashes.
@@ -70,7 +72,7 @@ pub fn prints_place(version: u16, n: u8) -> usize
 pub fn check_length(version: u16, m: u8, n: u8) -> usize
     ensures { result ≡ layout.check_length version m n }
 {
-    prints_place(version, n) + PRINT_BYTES * (m as usize)
+    prints_place(version, n) + PRINT_BYTES * usize::from(m)
 }
 
 pub fn body_place(version: u16) -> usize

@@ -1,5 +1,6 @@
 // The records' fields, read. What lies past the end of a record reads as zero.
-ghost use Rattle.std.specs.Prelude.{◌≡◌, ◌+◌, ◌<◌, ◌≤◌, get_or};
+ghost use Rattle.std.specs.Prelude.{◌≡◌, ◌+◌, ◌<◌, get_or, map};
+ghost use Rattle.std.specs.List.{range_with_len};
 ghost use Rattle.record.specs.Heads as heads;
 ghost use Rattle.record.specs.Layout as layout;
 
@@ -11,39 +12,30 @@ use column::Column;
 pub fn byte_at(s: &[u8], at: usize) -> u8
     ensures { result ≡ get_or s.now at 0 }
 {
-    if at < s.len() {
-        return s[at];
-    }
-    0
-}
-
-fn wide(x: u8) -> u64
-    ensures { result ≡ x }
-{
-    x as u64
+    s.get(at).copied().unwrap_or(0)
 }
 
 // The block number whose eight bytes stand from `at` on.
+#[tactic(auto, using(crate::proofs::Bytes::eight_bytes))]
 pub fn block_number_at(s: &[u8], at: u8) -> u64
     ensures { result ≡ layout.number_at 8 at s.now }
 {
-    number_at(s, 8, at as usize)
+    u64::from_be_bytes(bytes_at(s, usize::from(at)))
 }
 
-// The number that `count` bytes from `at` on stand for.
-fn number_at(s: &[u8], count: usize, at: usize) -> u64
-    requires { (count ≤ 8) × (at < 65536) }
-    ensures { result ≡ layout.number_at count at s.now }
+// The N bytes from `at` on.
+pub(crate) fn bytes_at<const N: usize>(s: &[u8], at: usize) -> [u8; N]
+    requires { at + N < 65536 }
+    ensures { result ≡ map (λ k. get_or s.now (at + k) 0) (range_with_len 0 N) }
 {
-    let mut n: u64 = 0;
-    let mut k = 0;
-    while k < count {
-        n = n * 256 + wide(byte_at(s, at + k));
-        k += 1;
+    let mut bytes = [0; N];
+    for (k, byte) in bytes.iter_mut().enumerate() {
+        *byte = byte_at(s, at + k);
     }
-    n
+    bytes
 }
 
+#[tactic(auto, unfolding(crate::specs::Layout::column_at))]
 fn column_at(s: &[u8], at: usize) -> Column
     requires { at < 65536 }
     ensures { result ≡ layout.column_at at s.now }
@@ -55,12 +47,14 @@ fn column_at(s: &[u8], at: usize) -> Column
     }
 }
 
+#[tactic(auto, unfolding(crate::specs::Heads::version_of), using(crate::proofs::Bytes::two_bytes))]
 pub(crate) fn version_of(s: &[u8]) -> u16
     ensures { result ≡ heads.version_of s.now }
 {
-    number_at(s, 2, VERSION_AT) as u16
+    u16::from_be_bytes(bytes_at(s, VERSION_AT))
 }
 
+#[tactic(auto, unfolding(crate::specs::Heads::check_head_of, crate::specs::Layout::head), using(crate::proofs::Bytes::four_bytes, crate::proofs::Bytes::eight_bytes))]
 pub fn read_check(check: &[u8]) -> CheckHead
     ensures { result ≡ heads.check_head_of check.now }
 {
@@ -68,14 +62,15 @@ pub fn read_check(check: &[u8]) -> CheckHead
     let at = head(version);
     CheckHead {
         version,
-        number: number_at(check, 8, NUMBER_AT),
-        length: number_at(check, 4, at) as u32,
+        number: u64::from_be_bytes(bytes_at(check, NUMBER_AT)),
+        length: u32::from_be_bytes(bytes_at(check, at)),
         m: byte_at(check, at + M_BEHIND),
         n: byte_at(check, at + N_BEHIND),
         seed: column_at(check, at + SEED_BEHIND),
     }
 }
 
+#[tactic(auto, unfolding(crate::specs::Heads::fragment_head_of, crate::specs::Layout::head), using(crate::proofs::Bytes::four_bytes, crate::proofs::Bytes::eight_bytes))]
 pub fn read_fragment(fragment: &[u8]) -> FragmentHead
     ensures { result ≡ heads.fragment_head_of fragment.now }
 {
@@ -83,8 +78,8 @@ pub fn read_fragment(fragment: &[u8]) -> FragmentHead
     let at = head(version);
     FragmentHead {
         version,
-        number: number_at(fragment, 8, NUMBER_AT),
+        number: u64::from_be_bytes(bytes_at(fragment, NUMBER_AT)),
         index: byte_at(fragment, at),
-        size: number_at(fragment, 4, at + SIZE_BEHIND) as u32,
+        size: u32::from_be_bytes(bytes_at(fragment, at + SIZE_BEHIND)),
     }
 }

@@ -2,9 +2,8 @@
 use Rattle.std.proofs.Common.{◌≡◌, ℕ, ◌%◌, Bool, true, false, cond, ltb, List, length, replicate, refl, arith, length-append}
 use Rattle.limits.specs.Limits.{longest_body}
 use Rattle.sha256.specs.declared.State.{State}
-use Rattle.sha256.specs.declared.Hashed.{Hashed}
 use Rattle.sha256.specs.Fips180.{bytes, padding, padded, digest, SHA_256}
-use Rattle.sha256.specs.Hash.{answered}
+use Rattle.sha256.specs.Hash.{Hashed, answered}
 use Rattle.sha256.proofs.Ending.{length_padding}
 
 pub whole_blocks : (m : List ℕ) → length (padded m) % 64 ≡ 0

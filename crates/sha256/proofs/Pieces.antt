@@ -1,21 +1,12 @@
 -- Hashing in pieces: the hash value after some blocks, and then after what follows them, is that after all.
 -- Assumes nothing.
-use Rattle.std.proofs.Common.{◌≡◌, ℕ, zero, suc, ◌+◌, ◌-◌, ◌*◌, ◌/◌, ◌≤◌, List, [], ◌++◌, length, take, drop, sym, refl, ap, ◌∙◌, ap₂, append_assoc, add-zero, add-suc, zero-add, add-one, arith, length-append, length-drop, drop_of_length-le, length-take-le, take_all, drop-drop, drop_at}
+use Rattle.std.proofs.Common.{◌≡◌, ℕ, zero, suc, ◌+◌, ◌-◌, ◌*◌, ◌/◌, ◌≤◌, List, [], ◌++◌, length, take, drop, sym, refl, ap, ◌∙◌, ap₂, append_assoc, add-zero, add-suc, zero-add, add-one, one-add, arith, length-append, length-drop, drop_of_length-le, length-take-le, take_all, drop-drop, drop_at}
+use Rattle.std.specs.List.{fold}
+use Rattle.std.specs.Simd.{first_chunks}
 use lib.Seq.{take-append-le, drop-append-le}
 use Rattle.sha256.specs.declared.State.{State}
 use Rattle.sha256.specs.Fips180.{padding, padded, block, H⁰, next, Hⁱ, Hᴺ, digest, SHA_256}
 use Rattle.sha256.specs.Hash.{finished}
-
--- the part that is lent for block i
-pub lent : (m : List ℕ) (i : ℕ) → take (64 * i + 64 - 64 * i) (drop (64 * i) m) ≡ block m i
-unfolding block
-lent m i =
-    let size : 64 * i + 64 - 64 * i ≡ 64 = omega arith in
-    ap (λ (k : ℕ). take k (drop (64 * i) m)) size
-
-pub length_block : (m : List ℕ) (i : ℕ) → 64 * (i + 1) ≤ length m → length (block m i) ≡ 64
-unfolding block
-length_block m i h = length-take-le 64 (drop (64 * i) m) (rw length-drop (omega arith))
 
 -- one block more
 pub absorbed_one : (s v : State) (m : List ℕ) (i : ℕ) → v ≡ Hⁱ i s m → next v (block m i) ≡ Hⁱ (i + 1) s m
@@ -45,6 +36,16 @@ back : (s : State) (m : List ℕ) (q j : ℕ) → Hⁱ (q + j) s m ≡ Hⁱ j (H
 unfolding Hⁱ
 back s m q zero = rw add-zero
 back s m q (suc j) = rw add-suc (ap₂ next (back s m q j) (sym (block_back m q j)))
+
+in_turn : (s : State) (k : ℕ) (m : List ℕ) → fold next s (first_chunks 64 k m) ≡ Hⁱ k s m
+unfolding Hⁱ block
+in_turn s zero m = refl
+in_turn s (suc k) m = in_turn (next s (take 64 m)) k (drop 64 m) ∙ sym (ap (λ (n : ℕ). Hⁱ n s m) (sym (one-add k)) ∙ back s m 1 k)
+
+-- the hash value taken on from block to block is that after all of them
+pub folded : (s : State) (m : List ℕ) → fold next s (first_chunks 64 (length m / 64) m) ≡ Hᴺ s m
+unfolding Hᴺ
+folded s m = in_turn s (length m / 64) m
 
 -- q blocks of m, and then all blocks of the rest of m with t after it
 pub rejoined : (s : State) (m t : List ℕ) (q : ℕ) → 64 * q ≤ length m → Hᴺ (Hⁱ q s m) (drop (64 * q) m ++ t) ≡ Hᴺ s (m ++ t)

@@ -85,12 +85,6 @@ lent k t e =
     let size : t + 16 - t ≡ 16 = omega arith in
     ap₂ (λ (n : ℕ) (l : List ℕ). take n (drop t l)) size e
 
-pub lent_last : (k : List ℕ) → k ≡ K → take (length k - 48) (drop 48 k) ≡ take 16 (drop 48 K)
-lent_last k e = ap (λ (l : List ℕ). take (length l - 48) (drop 48 l)) e ∙ ap (λ (n : ℕ). take (n - 48) (drop 48 K)) length_K
-
-pub length_lent : (t : ℕ) → t ≤ 48 → length (take 16 (drop t K)) ≡ 16
-length_lent t h = length-take-le 16 (drop t K) (rw length-drop (omega (arith, length_K)))
-
 pub words : (m : List ℕ) (t : ℕ) → t ≤ 48 → take 16 (drop t (W 64 m)) ≡ listed (W 64 m) 16 t 0
 words m t h = opened (W 64 m) t (omega (arith, length_W 64 m))
 
@@ -129,18 +123,6 @@ replaced m t i w x r h k e p₂ p₇ p₁₅ p₁₆ same = e ∙ ap made same �
         let q₁₅ : t + (16 + i) - 15 ≡ t + (1 + i) = omega arith in
         let q₁₆ : t + (16 + i) - 16 ≡ t + i = omega arith in
         due m (t + (16 + i)) (omega arith) (omega arith) ∙ cc (q₂, q₇, q₁₅, q₁₆)
-
--- a turn, from the sums in the order in which the code makes them
-pub one_turn : (v : State) (k w : ℕ) {s₁ x c y z t₁ s₀ j t₂ a e : ℕ}
-    → s₁ ≡ Σ₁ v.e → x ≡ v.h ⊞ s₁ → c ≡ Ch v.e v.f v.g → y ≡ x ⊞ c → z ≡ y ⊞ k → t₁ ≡ z ⊞ w
-    → s₀ ≡ Σ₀ v.a → j ≡ Maj v.a v.b v.c → t₂ ≡ s₀ ⊞ j → a ≡ t₁ ⊞ t₂ → e ≡ v.d ⊞ t₁
-    → ◌≡◌ {A = State} (record { a = a; b = v.a; c = v.b; d = v.c; e = e; f = v.e; g = v.f; h = v.g }) (turn v k w)
-unfolding turn
-one_turn v k w p₁ p₂ p₃ p₄ p₅ p₆ p₇ p₈ p₉ p₁₀ p₁₁ =
-    let T₁ = p₆ ∙ ap (λ (n : ℕ). n ⊞ w) (p₅ ∙ ap (λ (n : ℕ). n ⊞ k) (p₄ ∙ ap₂ ◌⊞◌ (p₂ ∙ ap (◌⊞◌ v.h) p₁) p₃)) in
-    let T₂ = p₉ ∙ ap₂ ◌⊞◌ p₇ p₈ in
-    ap₂ (λ (x y : ℕ). record { a = x; b = v.a; c = v.b; d = v.c; e = y; f = v.e; g = v.f; h = v.g })
-    (p₁₀ ∙ ap₂ ◌⊞◌ T₁ T₂) (p₁₁ ∙ ap (◌⊞◌ v.d) T₁)
 
 -- turn t + i
 pub turned : (w : List ℕ) (s : State) (t i : ℕ) (x y : State) (k v : ℕ)

@@ -5,9 +5,8 @@ ghost use Rattle.sha256.specs.Fips180.{◌⊞◌, σ₀, σ₁, word, K as fips_
 
 use crate::State;
 use crate::word::{ch, lower_sigma_0, lower_sigma_1, maj, upper_sigma_0, upper_sigma_1};
-use std::num::wrapping_add_u32;
 
-const K: [u32; 64] = [
+static K: [u32; 64] = [
     0x428a2f98, 0x71374491, 0xb5c0fbcf, 0xe9b5dba5, 0x3956c25b, 0x59f111f1, 0x923f82a4, 0xab1c5ed5,
     0xd807aa98, 0x12835b01, 0x243185be, 0x550c7dc3, 0x72be5d74, 0x80deb1fe, 0x9bdc06a7, 0xc19bf174,
     0xe49b69c1, 0xefbe4786, 0x0fc19dc6, 0x240ca1cc, 0x2de92c6f, 0x4a7484aa, 0x5cb0a9dc, 0x76f988da,
@@ -18,79 +17,46 @@ const K: [u32; 64] = [
     0x748f82ee, 0x78a5636f, 0x84c87814, 0x8cc70208, 0x90befffa, 0xa4506ceb, 0xbef9a3f7, 0xc67178f2,
 ];
 
-// The hash value after one block more.
+// The hash value after one block more. Of the schedule only the sixteen words from 16 * i on are kept: word 16 * i + j is w[j].
 pub fn step(s: State, block: &[u8; 64]) -> State
     ensures { result ≡ fips_next s block.now }
 {
-    next(s, &K, block)
+    let mut w = first(block);
+    let mut v = s;
+    for i in 0..3 {
+        let t = 16 * i;
+        v = along(v, &K[t..t + 16], &mut w);
+    }
+    let v = last(v, &K[48..], &w);
+    State {
+        a: v.a.wrapping_add(s.a),
+        b: v.b.wrapping_add(s.b),
+        c: v.c.wrapping_add(s.c),
+        d: v.d.wrapping_add(s.d),
+        e: v.e.wrapping_add(s.e),
+        f: v.f.wrapping_add(s.f),
+        g: v.g.wrapping_add(s.g),
+        h: v.h.wrapping_add(s.h),
+    }
 }
 
 // The hash value after the whole blocks of m, which are read where they lie; what is left past them is not looked at.
 pub(crate) fn absorb(s: State, m: &[u8]) -> State
     ensures { result ≡ Hᴺ s m.now }
 {
-    let k = &K;
-    let n = m.len() / 64;
-    let mut v = s;
-    let mut i = 0;
-    while i < n {
-        let at = 64 * i;
-        let e = at + 64;
-        v = next(v, k, &m[at..e]);
-        i += 1;
-    }
-    v
-}
-
-// The hash value after s and one block. Of the schedule only the sixteen words from t on are kept: word t + i is w[i].
-fn next(s: State, k: &[u32], m: &[u8]) -> State
-    requires { (k.now ≡ fips_K) × (length m.now ≡ 64) }
-    ensures { result ≡ fips_next s m.now }
-{
-    let mut w = first(m);
-    let mut v = s;
-    let mut t = 0;
-    while t < 48 {
-        let e = t + 16;
-        v = along(v, &k[t..e], &mut w);
-        t = e;
-    }
-    let v = last(v, &k[48..], &w);
-    State {
-        a: wrapping_add_u32(v.a, s.a),
-        b: wrapping_add_u32(v.b, s.b),
-        c: wrapping_add_u32(v.c, s.c),
-        d: wrapping_add_u32(v.d, s.d),
-        e: wrapping_add_u32(v.e, s.e),
-        f: wrapping_add_u32(v.f, s.f),
-        g: wrapping_add_u32(v.g, s.g),
-        h: wrapping_add_u32(v.h, s.h),
-    }
+    let (blocks, _) = m.as_chunks::<64>();
+    blocks.iter().fold(s, |v, block| step(v, block))
 }
 
 // The first sixteen words of the schedule of the block m.
-fn first(m: &[u8]) -> [u32; 16]
-    requires { length m.now ≡ 64 }
+fn first(m: &[u8; 64]) -> [u32; 16]
     ensures { result ≡ W 16 m.now }
 {
-    [
-        word_at(m, 0),
-        word_at(m, 4),
-        word_at(m, 8),
-        word_at(m, 12),
-        word_at(m, 16),
-        word_at(m, 20),
-        word_at(m, 24),
-        word_at(m, 28),
-        word_at(m, 32),
-        word_at(m, 36),
-        word_at(m, 40),
-        word_at(m, 44),
-        word_at(m, 48),
-        word_at(m, 52),
-        word_at(m, 56),
-        word_at(m, 60),
-    ]
+    let mut w = [0; 16];
+    for t in 0..16 {
+        w[t] = word_at(m, 4 * t);
+    }
+    w
 }
 
 // Sixteen turns; w goes from the words of these to those of the next sixteen. In a straight line no variable is ever moved.
@@ -164,25 +130,29 @@ fn turn_at(v: State, k: &[u32], w: &[u32; 16], i: usize) -> State
 fn scheduled(w2: u32, w7: u32, w15: u32, w16: u32) -> u32
     ensures { result ≡ σ₁ w2 ⊞ w7 ⊞ σ₀ w15 ⊞ w16 }
 {
-    let x = wrapping_add_u32(lower_sigma_1(w2), w7);
-    let y = wrapping_add_u32(x, lower_sigma_0(w15));
-    wrapping_add_u32(y, w16)
+    lower_sigma_1(w2)
+        .wrapping_add(w7)
+        .wrapping_add(lower_sigma_0(w15))
+        .wrapping_add(w16)
 }
 
 // One turn on the eight words, with its constant and its word.
+#[tactic(auto, unfolding(crate::specs::Fips180::turn))]
 fn turn(v: State, k: u32, w: u32) -> State
     ensures { result ≡ fips_turn v k w }
 {
-    let x = wrapping_add_u32(v.h, upper_sigma_1(v.e));
-    let y = wrapping_add_u32(x, ch(v.e, v.f, v.g));
-    let t1 = wrapping_add_u32(wrapping_add_u32(y, k), w);
-    let t2 = wrapping_add_u32(upper_sigma_0(v.a), maj(v.a, v.b, v.c));
+    let t1 =
+        v.h.wrapping_add(upper_sigma_1(v.e))
+            .wrapping_add(ch(v.e, v.f, v.g))
+            .wrapping_add(k)
+            .wrapping_add(w);
+    let t2 = upper_sigma_0(v.a).wrapping_add(maj(v.a, v.b, v.c));
     State {
-        a: wrapping_add_u32(t1, t2),
+        a: t1.wrapping_add(t2),
         b: v.a,
         c: v.b,
         d: v.c,
-        e: wrapping_add_u32(v.d, t1),
+        e: v.d.wrapping_add(t1),
         f: v.e,
         g: v.f,
         h: v.g,
@@ -190,16 +160,10 @@ fn turn(v: State, k: u32, w: u32) -> State
 }
 
 // The word that the four bytes from place i on make, the first the most significant.
+#[tactic(auto, unfolding(crate::specs::Fips180::word))]
 fn word_at(m: &[u8], i: usize) -> u32
     requires { i + 4 ≤ length m.now }
     ensures { result ≡ word m.now i }
 {
-    wide(m[i]) * 0x100_0000 + wide(m[i + 1]) * 0x1_0000 + wide(m[i + 2]) * 0x100 + wide(m[i + 3])
-}
-
-fn wide(x: u8) -> u32
-    ensures value { result ≡ x }
-    ensures upper_bound { result < 256 }
-{
-    x as u32
+    u32::from_be_bytes([m[i], m[i + 1], m[i + 2], m[i + 3]])
 }

@@ -1,5 +1,5 @@
-// SHA-256 (FIPS 180-4). `sha256` hashes a body; `start`, `step` and `finish` hash bytes that come in pieces: any number
-// of blocks of 64 bytes, and then the rest. The definitions stand in specs/, in the standard's order and by its names.
+// SHA-256 (FIPS 180-4). `sha256` hashes a body, `digest` any bytes; `start`, `step` and `finish` hash bytes that come in pieces: any
+// number of blocks of 64 bytes, and then the rest. The definitions stand in specs/, in the standard's order and by its names.
 #![tactic(auto)]
 
 mod block;
@@ -7,14 +7,15 @@ mod tail;
 mod word;
 
 ghost use Rattle.std.specs.Prelude.{◌≡◌};
-ghost use Rattle.sha256.specs.Fips180.{H⁰};
-ghost use Rattle.sha256.specs.Hash.{answered};
+ghost use Rattle.sha256.specs.Fips180.{H⁰, SHA_256};
+ghost use Rattle.sha256.specs.Hash.{answered, numbers_of};
 
 pub use block::step;
+use refusal::Refusal;
 pub use tail::finish;
 
 // A hash value: eight words, H0 to H7 of the standard, and its working variables in the turns of a block.
-#[derive(Clone, Copy)]
+#[derive(Clone, Copy, Debug, PartialEq, Eq)]
 pub struct State {
     pub a: u32,
     pub b: u32,
@@ -26,25 +27,21 @@ pub struct State {
     pub h: u32,
 }
 
-// 0 with the digest of a body, or the number of a refusal with zero bytes.
-#[derive(Clone, Copy)]
-pub struct Hashed {
-    pub number: u32,
-    pub digest: [u8; 32],
-}
-
 // The digest of a body; one longer than the longest body is refused by 2.
-pub fn sha256(body: &[u8]) -> Hashed
-    ensures { result ≡ answered body.now }
+pub fn sha256(body: &[u8]) -> Result<[u8; 32], Refusal>
+    ensures { numbers_of result ≡ answered body.now }
 {
     if limits::LONGEST_BODY < body.len() {
-        return Hashed {
-            number: 2,
-            digest: [0; 32],
-        };
+        return Err(Refusal::TooLong);
     }
-    let digest = finish(start(), 0, body);
-    Hashed { number: 0, digest }
+    Ok(digest(body))
+}
+
+// The digest of bytes of any length.
+pub fn digest(message: &[u8]) -> [u8; 32]
+    ensures { result ≡ SHA_256 message.now }
+{
+    finish(start(), 0, message)
 }
 
 // The hash value of no block.

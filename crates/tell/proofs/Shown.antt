@@ -14,8 +14,7 @@ use Rattle.algebra.specs.Several.{listed, end_to_end}
 use Rattle.algebra.proofs.Several.{end_to_end_more}
 use Rattle.code.specs.Cutting.{body_length}
 use Rattle.column.specs.declared.Column.{Column}
-use Rattle.fingerprint.specs.declared.Fingerprinted.{Fingerprinted}
-use Rattle.fingerprint.specs.Answer.{fingerprinted}
+use Rattle.fingerprint.specs.Answer.{Fingerprinted, fingerprinted}
 use Rattle.cut.specs.Cut.{body_among}
 use Rattle.cut.proofs.Among.{among_part}
 use Rattle.join.specs.declared.Joined.{Joined}

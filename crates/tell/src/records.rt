@@ -27,8 +27,7 @@ fn print_among(size: u32, seed: u32, fragments: &[u8], index: u8) -> Column
     let step = record::record_length(record::WRITTEN_VERSION, size);
     let start = (index as usize) * step + record::body_place(record::WRITTEN_VERSION);
     let end = start + size as usize;
-    let print = fingerprint::fingerprint(seed, &fragments[start..end]);
-    print.column
+    fingerprint::fingerprint(seed, &fragments[start..end]).unwrap_or(Column::ZERO)
 }
 
 // A line for each of n records.

@@ -133,12 +133,10 @@ fn count_up(message: &mut [u8]) {
 fn agrees(message: &[u8], line: &[u8]) -> bool {
     let mut wanted = [0u8; 32];
     unhex(line, &mut wanted);
-    let hashed = sha256::sha256(message);
-    if hashed.number != 0 {
-        return false;
+    match sha256::sha256(message) {
+        Ok(digest) => check::same(&digest, &wanted),
+        Err(_) => false,
     }
-    let digest = hashed.digest;
-    check::same(&digest, &wanted)
 }
 
 fn room_for_file() -> [u8; 500000]

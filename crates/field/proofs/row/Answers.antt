@@ -7,15 +7,13 @@ pub returns-then-by-eq0 : goal.returns-then-by-eq0
 returns-then-by-eq0 c = row_none _ c.if-by-eq0.true
 
 pub loop-k-init : goal.loop-k-init
-loop-k-init c = (omega arith, start _)
+loop-k-init c = start _
 
 pub loop-k-preserved : goal.loop-k-preserved
-loop-k-preserved c = (
-  omega arith,
-  fill_read _ _ _ _ _ _ c.powers-table.ensures (omega arith)
-      (c.place-at.ensures.1 c.if-by-eq0.false)
-      c.wide.ensures c.loop-k.invariant.1,
-)
+loop-k-preserved c =
+    fill_read _ _ _ _ _ _ c.powers-table.ensures (omega arith)
+    (c.place-at.ensures.1 c.if-by-eq0.false)
+    c.from.ensures c.loop-k.invariant
 
 pub returns : goal.returns
-returns c = filled _ _ _ (omega arith) c.loop-k.invariant.1
+returns c = filled _ _ _ (omega arith) c.loop-k.invariant

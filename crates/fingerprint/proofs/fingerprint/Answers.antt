@@ -7,15 +7,15 @@ use Rattle.fingerprint.proofs.fingerprint.Goals as goal
 
 pub returns-then-body-gt-LONGEST_BODY : goal.returns-then-body-gt-LONGEST_BODY
 returns-then-body-gt-LONGEST_BODY c =
-    c.refused.ensures ∙ too_long c.args.seed c.args.body.now c.if-body-gt-LONGEST_BODY.true
+    too_long c.args.seed c.args.body.now c.if-body-gt-LONGEST_BODY.true
 
 pub returns-then-seed-gt-LARGEST_SEED : goal.returns-then-seed-gt-LARGEST_SEED
 returns-then-seed-gt-LARGEST_SEED c =
-    c.refused-then-seed-gt-LARGEST_SEED.ensures ∙ no_seed c.args.seed c.args.body.now c.if-body-gt-LONGEST_BODY.false c.if-seed-gt-LARGEST_SEED.true
+    no_seed c.args.seed c.args.body.now c.if-body-gt-LONGEST_BODY.false c.if-seed-gt-LARGEST_SEED.true
 
 pub returns-then-body-ne0 : goal.returns-then-body-ne0
 returns-then-body-ne0 c =
-    c.refused-then-body-ne0.ensures ∙ no_columns c.args.seed c.args.body.now c.if-body-gt-LONGEST_BODY.false c.if-seed-gt-LARGEST_SEED.false c.if-body-ne0.true
+    no_columns c.args.seed c.args.body.now c.if-body-gt-LONGEST_BODY.false c.if-seed-gt-LARGEST_SEED.false c.if-body-ne0.true
 
 pub returns : goal.returns
 returns c =

@@ -94,16 +94,7 @@ slice_bounds-body-start c = let fragment-good : fragment_shaped c.read_check-c.r
 pub hash_agrees-requires : goal.hash_agrees-requires
 hash_agrees-requires c =
     let shaped : check_shaped c.args.check.now ≡ true = sym c.check_shaped.ensures ∙ c.if-not-check_shaped.false in
-    let fragment-good : fragment_shaped c.read_check-c.result.version c.body_length-size.result c.args.fragment.now ≡ true = sym c.fragment_shaped.ensures ∙ c.if-not-fragment_shaped.false in
-    record {
-      c_value = (c.read_check-c.ensures, shaped);
-      index_lt_n = (
-        c.if-f-c.false,
-        subst (λ (k : ℕ). k ≤ longest_body)
-            (sym c.body_length-size.ensures ∙ sym (body_sized _ _ _ (fragment-good) _ c.body_place-at.ensures))
-            (size_fits _ (shaped) _ c.read_check-c.ensures),
-      );
-    }
+    record { c_value = (c.read_check-c.ensures, shaped); index_lt_n = c.if-f-c.false }
 
 pub returns-then-not-hash_agrees : goal.returns-then-not-hash_agrees
 unfolding conditions

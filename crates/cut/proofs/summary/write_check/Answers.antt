@@ -19,11 +19,9 @@ overflow_cast-size c = omega (arith, c.body_length-size.ensures, body_length_fit
 pub write_hashes-requires : goal.write_hashes-requires
 write_hashes-requires c =
     record {
-      out_len = (
+      out_len =
         mid_len c.hash_place-hashes.result c.prints_place-prints.result c.write_check_head.new.out (omega (arith, c.write_check_head.auto.out, c.requires.check_value, c.prints_place-prints.ensures))
-            ∙ omega (arith, c.prints_place-prints.ensures, c.hash_place-hashes.ensures),
-        omega (arith, c.body_length-size.ensures, body_length_fits c.args.length c.args.m c.requires.le_m.2 c.requires.le_m.0),
-      );
+            ∙ omega (arith, c.prints_place-prints.ensures, c.hash_place-hashes.ensures);
       size_in_bounds = omega (arith, c.requires.fragments_value, ap (λ (F : ℕ). c.args.n * record_length written_version F) c.body_length-size.ensures);
     }
 

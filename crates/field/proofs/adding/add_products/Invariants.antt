@@ -1,11 +1,5 @@
-use Prim.Native.Nat.{◌-◌}
-use lib.ListN.{length}
 use Rattle.field.proofs.Added.{Adding}
 use Rattle.field.proofs.adding.add_products.Given as goal
 
 abbrev pub invariant-loop-k : goal.invariant-loop-k
 invariant-loop-k l = Adding l.by l.initial.sum l.factors l.k l.sum
-
--- proposed from the loop's first test
-abbrev pub decreases-loop-k : goal.decreases-loop-k
-decreases-loop-k l = length l.factors - l.k

@@ -9,4 +9,4 @@ loop-k-init c =
 
 pub loop-k-preserved : goal.loop-k-preserved
 loop-k-preserved c =
-    (omega arith, c.grown-product.ensures.0, one_nodal c.args.points.now c.loop-k.k _ (omega arith) c.loop-k.invariant.0 _ _ _ c.plus.ensures c.grown-product.ensures.1 c.loop-k.invariant.2)
+    (omega arith, c.grown-product.ensures.bound, one_nodal c.args.points.now c.loop-k.k _ (omega arith) c.loop-k.invariant.0 _ _ _ c.plus.ensures c.grown-product.ensures.value c.loop-k.invariant.2)

@@ -1,11 +1,12 @@
--- `field::many::settled` meets its contract: 0, or what stands at the place.
-use mathlib.Core.Path.{sym}
-use native.Mathlib.Omega.{arith}
-use Rattle.field.proofs.Growth.{at_zero, look_place}
+-- `field::many::settled` meets its contract: what stands at the place, or 0.
+use mathlib.Core.Path.{sym, ap, ◌∙◌}
+use Rattle.std.proofs.Common.{rules}
+use Rattle.field.specs.Byte.{product_at}
+use Rattle.field.proofs.Growth.{look_place, without}
 use Rattle.field.proofs.many.settled.Goals as goal
 
-pub returns-then-product-eq255 : goal.returns-then-product-eq255
-returns-then-product-eq255 c = sym (at_zero _ c.if-product-eq255.true)
+pub returns-in-Some : goal.returns-in-Some
+returns-in-Some c = look_place _ c.powers.ensures _ _ c.in-Some.is (search rules)
 
-pub returns : goal.returns
-returns c = look_place _ c.powers-table.ensures _ (omega arith)
+pub returns-in-None : goal.returns-in-None
+returns-in-None c = sym (ap product_at c.in-None.is ∙ without)

@@ -9,7 +9,7 @@ loop-k-init c =
 
 pub loop-k-preserved-then-p-q : goal.loop-k-preserved-then-p-q
 loop-k-preserved-then-p-q c =
-    (omega arith, c.grown-product.ensures.0, multiplied c.args.points.now c.loop-k.k _ (omega arith) c.loop-k.invariant.0 _ _ _ c.plus.ensures c.grown-product.ensures.1 _ c.if-p-q.true c.loop-k.invariant.2)
+    (omega arith, c.grown-product.ensures.bound, multiplied c.args.points.now c.loop-k.k _ (omega arith) c.loop-k.invariant.0 _ _ _ c.plus.ensures c.grown-product.ensures.value _ c.if-p-q.true c.loop-k.invariant.2)
 
 pub loop-k-preserved : goal.loop-k-preserved
 loop-k-preserved c =

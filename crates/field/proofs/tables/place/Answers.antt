@@ -5,4 +5,4 @@ use Rattle.field.proofs.tables.place.Goals as goal
 
 pub returns : goal.returns
 returns c =
-    place_read c.args.places.now c.requires _ _ _ (search rules) c.wide.ensures c.wide-2.ensures
+    place_read c.args.places.now c.requires _ _ _ (search rules) c.from.ensures c.from-2.ensures

@@ -1,22 +1,14 @@
--- `sha256::block::absorb` meets its contract. The invariant: v is the hash value after i blocks. Assumes nothing.
-use Rattle.std.proofs.Common.{◌≡◌, ℕ, ◌/◌, length, refl, ap, ◌∙◌, arith}
-use Rattle.sha256.proofs.Pieces.{lent, absorbed_one}
-use Rattle.sha256.specs.Fips180.{K, next, Hⁱ, Hᴺ}
+-- `sha256::block::absorb` meets its contract: block after block is taken on. Assumes nothing.
+use Rattle.std.proofs.Common.{◌≡◌, ℕ, ◌/◌, length, ◌∙◌, arith}
+use Rattle.std.proofs.lemmas.Grind.{common_steps}
+use Rattle.std.specs.List.{fold}
+use Rattle.std.specs.Simd.{first_chunks}
+use Rattle.sha256.proofs.Pieces.{folded}
+use Rattle.sha256.specs.Fips180.{next}
 use Rattle.sha256.proofs.block.absorb.Goals as goal
 
-pub loop-i-init : goal.loop-i-init
-unfolding Hⁱ K
-loop-i-init c = (omega arith, refl, refl)
-
-pub loop-i-preserved : goal.loop-i-preserved
-loop-i-preserved c = (
-  omega arith,
-  c.loop-i.invariant.1,
-  c.next-v.ensures ∙ ap (next c.loop-i.v) (lent c.args.m.now c.loop-i.i) ∙ absorbed_one c.args.s c.loop-i.v c.args.m.now c.loop-i.i c.loop-i.invariant.2,
-)
-
 pub returns : goal.returns
-unfolding Hᴺ
 returns c =
-    let all : c.loop-i.i ≡ length c.args.m.now / 64 = omega arith in
-    c.loop-i.invariant.2 ∙ ap (λ (k : ℕ). Hⁱ k c.args.s c.args.m.now) all
+    let m = c.args.m.now in
+    let run : c.fold.result ≡ fold next c.args.s (first_chunks 64 (length m / 64) m) = grind (arith, common_steps) in
+    run ∙ folded c.args.s m

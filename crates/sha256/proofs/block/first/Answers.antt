@@ -1,6 +1,11 @@
--- `sha256::block::first` meets its contract: the first sixteen words are those of the block. Assumes nothing.
+use Rattle.std.proofs.Common.{◌≡◌, ℕ, ◌+◌, ◌*◌, ◌∙◌, sym, refl, arith, map, [], ◌∷◌}
+use Rattle.std.specs.List.{range_with_len}
+use Rattle.std.proofs.lemmas.List.FromFn.{fill_by_all}
+use Rattle.sha256.specs.Fips180.{word}
 use Rattle.sha256.proofs.Scheduling.{given}
 use Rattle.sha256.proofs.block.first.Goals as goal
 
 pub returns : goal.returns
-returns c = cc (given c.args.m.now)
+returns c =
+    fill_by_all (λ i. word c.args.m.now (4 * i)) c.loop-t.w 16 0 c.loop-t.invariant.0 (λ i h. c.loop-t.invariant.1 i (omega arith))
+    ∙ sym (given c.args.m.now)
