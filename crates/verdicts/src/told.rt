@@ -1,7 +1,8 @@
 // A line for each case: what was changed, the number, the value, the bytes opened.
 use crate::input::{Change, Input};
 use crate::records::{CHECK, FRAGMENT, ONE_CHECK, ONE_FRAGMENT};
-use inspect::{Reason, Verdict};
+use inspect::Verdict;
+use refusal::Refusal;
 use std::io;
 
 // What is changed, in words, and the changes in turn.
@@ -36,21 +37,11 @@ fn verdict(rt: &HostRuntime, what: &str, input: &Input) -> io::Result<()> {
     } = input;
     let (number, value) = match inspect::check(*wanted, check, fragment) {
         Verdict::Accepted(index) => (0, u64::from(index)),
-        Verdict::Refused(reason) => refusal(reason),
+        Verdict::Refused(reason) => {
+            let refusal = Refusal::from(reason);
+            (refusal.number(), refusal.values().0)
+        }
     };
     let opened = inspect::open(*wanted, check, fragment).len();
     println!(rt; "{what}: {number} {value} {opened}")
-}
-
-fn refusal(reason: Reason) -> (u32, u64) {
-    match reason {
-        Reason::CheckMark => (5, 0),
-        Reason::CheckShape => (6, 0),
-        Reason::OtherBlock => (7, 0),
-        Reason::FragmentShape => (8, 0),
-        Reason::OtherNumber(found) => (9, found),
-        Reason::NoSuchHead => (10, 0),
-        Reason::Hash => (11, 0),
-        Reason::Fingerprint => (12, 0),
-    }
 }
