@@ -6,6 +6,7 @@
 
 ghost use Rattle.std.specs.Prelude.{◌≡◌};
 ghost use lib.ListN.{length};
+ghost use Rattle.refusal.specs.Number.{number_in};
 ghost use Rattle.sha256.specs.Hash.{answered};
 ghost use Rattle.record.specs.Layout.{column_bytes};
 ghost use Rattle.fingerprint.specs.Answer.{fingerprinted};
@@ -31,7 +32,7 @@ pub fn rwk_cut(
     ensures fragments_after { fragments.new ≡ cutting.held result (cutting.fragments m n number block.now) fragments.old }
     ensures check_after { check.new ≡ cutting.held result (cutting.check m n seed number block.now) check.old }
 {
-    cut::cut(m, n, seed, number, block, fragments, check)
+    code(cut::cut(m, n, seed, number, block, fragments, check))
 }
 
 pub fn rwk_cut_standard(
@@ -45,16 +46,33 @@ pub fn rwk_cut_standard(
     ensures fragments_after { fragments.new ≡ cutting.held result (cutting.fragments standard.m standard.n number block.now) fragments.old }
     ensures check_after { check.new ≡ cutting.held result (cutting.check standard.m standard.n seed number block.now) check.old }
 {
-    cut::cut_standard(seed, number, block, fragments, check)
+    code(cut::cut_standard(seed, number, block, fragments, check))
 }
 
 pub fn rwk_card_size(length: u64, size: &mut u64) -> u32
     ensures value { result ≡ (standard.planned length).number }
     ensures size_after { size.new ≡ (standard.planned length).size }
 {
-    let planned = cut::card_size(length);
-    *size = planned.size;
-    planned.number
+    match cut::card_size(length) {
+        Ok(planned) => {
+            *size = planned;
+            0
+        }
+        Err(refusal) => {
+            *size = 0;
+            refusal.number()
+        }
+    }
+}
+
+// The number of an answer that has no value.
+fn code(answer: Result<(), Refusal>) -> u32
+    ensures { result ≡ number_in answer }
+{
+    match answer {
+        Ok(()) => 0,
+        Err(refusal) => refusal.number(),
+    }
 }
 
 pub fn rwk_check(wanted: u64, check: &[u8], fragment: &[u8], value: &mut u64) -> u32

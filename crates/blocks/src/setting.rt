@@ -16,7 +16,8 @@ impl Setting {
     pub(crate) fn cut(m: u32, check_length: usize) -> Setting {
         let mut check = zeros(check_length);
         let mut records = zeros(84);
-        cut::cut(
+        // Refused with another check_length: the records are then zero bytes.
+        let _ = cut::cut(
             m,
             4,
             256,

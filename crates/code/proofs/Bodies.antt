@@ -4,11 +4,12 @@ use mathlib.Core.Logic.{◌≢◌}
 use mathlib.Core.List.{List, [], ◌∷◌, map}
 use Prim.Native.Nat.{ℕ, zero, suc, ◌+◌, ◌*◌, ◌/◌, ◌%◌, ◌<◌, ◌≤◌}
 use native.Mathlib.Nat.{le_of_eq, le_trans, le_of_suc-le-suc, lt_irrefl, lt_of_lt_of_le, not-suc-le-zero, zero-lt-suc, mul-zero, mod-lt, div-add-mod', div-lt_iff_lt-mul}
-use native.Mathlib.Decide.{dec_lt}
+use native.Mathlib.Decide.{dec_lt, ℕ_discrete}
 use native.Mathlib.Omega.{arith}
 use lib.ListN.{length, get_or, take, get_or-eq_default}
 use lib.Seq.{ext_get_or}
-use lib.Dec.{lit<}
+use lib.Dec.{lit<, eqb}
+use mir.Val.{bool_byte}
 use borrow.Author.Tests.{eq-eqb, ne_eqb}
 use Rattle.algebra.specs.Several.{listed, All, In, Distinct}
 use Rattle.algebra.specs.Polynomial.{value, interpolate, only, coefficient, weight}
@@ -181,6 +182,14 @@ module _ (m : ℕ) (hm : m ≤ 256) (i : ℕ) (hi : i < m) (j : ℕ) (hj : Small
   pub coefficient_none : (i ≡ j → ⊥) → coefficient_of m i j ≡ 0
   unfolding only
   coefficient_none ne = coefficient_own ∙ rw (ne_eqb j i (λ e. ne (sym e)), only)
+
+  -- both in one byte
+  pub coefficient_itself : bool_byte (eqb i j) ≡ coefficient_of m i j
+  coefficient_itself =
+      elim (ℕ_discrete i j) [
+        | yes e ↦ ap bool_byte (eq-eqb i j e) ∙ sym (coefficient_one e)
+        | no ne ↦ ap bool_byte (ne_eqb i j ne) ∙ sym (coefficient_none ne)
+      ]
 
 -- what is not below m counts nothing
 pub coefficient_beyond : (m : ℕ) → m ≤ 256 → (i : ℕ) → Small i → (j : ℕ) → Small j → m ≤ j → coefficient_of m i j ≡ 0

@@ -23,8 +23,7 @@ pub fn body_length(length: u32, m: u8) -> usize
     if m == 0 {
         return 0;
     }
-    let stripe = 3 * wide(m);
-    3 * ((length as usize + (stripe - 1)) / stripe)
+    3 * (length as usize).div_ceil(3 * usize::from(m))
 }
 
 // The points of the first 255 bodies, of which a cut into m takes the first m.
@@ -32,10 +31,8 @@ pub fn points() -> [u8; 255]
     ensures { result ≡ cutting.points 255 }
 {
     let mut out = [0u8; 255];
-    let mut point: u8 = 0;
-    while point < 255 {
-        out[wide(point)] = point;
-        point += 1;
+    for point in 0..255u8 {
+        out[usize::from(point)] = point;
     }
     out
 }
@@ -62,25 +59,16 @@ pub fn coefficient(m: u8, i: u8, j: u8) -> u8
         return 0;
     }
     if i < m {
-        if i == j {
-            return 1;
-        }
-        return 0;
+        return u8::from(i == j);
     }
-    let all = points();
-    let count = wide(m);
-    weight(&all[..count], j, i)
+    weight(&points()[..usize::from(m)], j, i)
 }
 
 // The sum of no body: zero bytes.
 pub fn clear(sum: &mut [u8])
     ensures { sum.new ≡ replicate (length sum.old) 0 }
 {
-    let mut k = 0;
-    while k < sum.len() {
-        sum[k] = 0;
-        k += 1;
-    }
+    sum.fill(0);
 }
 
 // Adds `by` times the body to the sum, byte by byte, as far as both go.
@@ -92,11 +80,8 @@ pub fn add_scaled(sum: &mut [u8], body: &[u8], by: u8)
         return;
     }
     let row = field::row(by);
-    let end = shorter(sum.len(), body.len());
-    let mut k = 0;
-    while k < end {
-        sum[k] = sum[k] ^ row[body[k] as usize];
-        k += 1;
+    for k in 0..sum.len().min(body.len()) {
+        sum[k] ^= row[usize::from(body[k])];
     }
 }
 
@@ -104,11 +89,5 @@ pub fn add_scaled(sum: &mut [u8], body: &[u8], by: u8)
 pub fn shorter(a: usize, b: usize) -> usize
     ensures { result ≡ min a b }
 {
-    if a < b { a } else { b }
-}
-
-fn wide(x: u8) -> usize
-    ensures { result ≡ x }
-{
-    x as usize
+    a.min(b)
 }

@@ -5,17 +5,14 @@ ghost use Rattle.code.specs.Cutting as cutting;
 ghost use Rattle.code.specs.Weights as weights;
 ghost use Rattle.code.specs.Shares as shares;
 
-use crate::{points, shorter, spread, wide};
+use crate::{points, spread};
 
 // The spread of each point among all of them.
 pub fn each_spread(points: &[u8], out: &mut [u8])
     ensures { out.new ≡ shares.overlaid (map (weights.spread bytes points.now) points.now) out.old }
 {
-    let end = shorter(points.len(), out.len());
-    let mut k = 0;
-    while k < end {
+    for k in 0..points.len().min(out.len()) {
         out[k] = spread(points, points[k]);
-        k += 1;
     }
 }
 
@@ -24,11 +21,8 @@ pub fn each_share(points: &[u8], spreads: &[u8], t: u8, out: &mut [u8])
     ensures { out.new ≡ shares.overlaid (shares.shares points.now spreads.now t) out.old }
 {
     let whole = field::nodal(points, t);
-    let end = shorter(shorter(points.len(), spreads.len()), out.len());
-    let mut k = 0;
-    while k < end {
+    for k in 0..points.len().min(spreads.len()).min(out.len()) {
         out[k] = share(whole, points[k], spreads[k], t);
-        k += 1;
     }
 }
 
@@ -37,7 +31,7 @@ pub fn coefficients(m: u8, i: u8, out: &mut [u8])
     ensures { out.new ≡ shares.overlaid (map (cutting.coefficient_of m i) (cutting.points m)) out.old }
 {
     let all = points();
-    let count = wide(m);
+    let count = usize::from(m);
     let mut room = [0u8; 255];
     each_spread(&all[..count], &mut room[..count]);
     each_share(&all[..count], &room[..count], i, out);

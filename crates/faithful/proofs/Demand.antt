@@ -1,7 +1,8 @@
 -- Demand 2 of a cut and its records, as `specs/Faithful` states it.
 use mathlib.Core.Path.{ap, ◌∙◌}
 use mathlib.Core.List.{List}
-use Prim.Native.Nat.{ℕ}
+use Prim.Native.Nat.{ℕ, ◌≤◌}
+use native.Mathlib.Omega.{arith}
 use lib.ListN.{length}
 use Rattle.cut.specs.Cut as cut
 use Rattle.record.specs.declared.CheckHead.{CheckHead}
@@ -11,7 +12,7 @@ use Rattle.faithful.proofs.Accepted.{head_is, marked_is, shaped_is, counts, n≤
 use Rattle.faithful.proofs.Joined.{Honest, done, given_back}
 
 pub each_accepted : EachAccepted
-each_accepted m n seed number block within i below = accepted_as m n seed number block within i below
+each_accepted m n seed number block within i below = accepted_as m n seed number block within i (omega (arith, below))
 
 honest : (m n seed number : ℕ) (block : List ℕ) → Within m n seed number block → Honest m n number block (cut.check m n seed number block)
 honest m n seed number block within =
@@ -31,11 +32,14 @@ honest m n seed number block within =
 
 pub any_give_back : AnyGiveBack
 any_give_back m n seed number block within records out indexes holds exact = (
-  done m n number block (cut.check m n seed number block) h records out holds.others indexes holds.different holds.enough holds.there
+  done m n number block (cut.check m n seed number block) h records out holds.others indexes holds.different enough holds.there
       exact holds.whole holds.few,
-  given_back m n number block (cut.check m n seed number block) h records out holds.others indexes holds.different holds.enough holds.there
+  given_back m n number block (cut.check m n seed number block) h records out holds.others indexes holds.different enough holds.there
       exact holds.whole holds.few,
 )
   where
     h : Honest m n number block (cut.check m n seed number block)
     h = honest m n seed number block within
+
+    enough : m ≤ length indexes
+    enough = omega (arith, holds.enough)

@@ -21,8 +21,9 @@ use Rattle.inspect.specs.Answer.{Answer, accepted}
 use Rattle.inspect.specs.Check.{size_of, checked}
 use Rattle.inspect.specs.Check as inspect
 use Rattle.cut.specs.Cut as cut
-use Rattle.gather.specs.Gather.{Used, stride, record_at, count_of}
-use Rattle.gather.proofs.Used.{indexes, Sound, sound}
+use Rattle.gather.specs.declared.Used.{Used}
+use Rattle.gather.specs.Gather.{stride, record_at, count_of}
+use Rattle.gather.proofs.Uses.{indexes, Sound, sound}
 use Rattle.join.specs.Join.{body_with, all_used, padded, all_zero, lengths_fit, join_number, join_output}
 use Rattle.join.proofs.Found.{room}
 use Rattle.faithful.proofs.Padded.{any_filled, take_filled, fill_zero}

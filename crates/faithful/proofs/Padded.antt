@@ -65,7 +65,6 @@ any_filled m F hm block hb h is small d l bodies e =
     ∙ any_block m F hm (filled m F block) (filled_bytes m F block hb) is small d l (filled_length m F block h)
 
 zeros_zero : (z : ℕ) → all_zero (replicate z 0) ≡ true
-unfolding all_zero
 zeros_zero zero = refl
 zeros_zero (suc z) = zeros_zero z
 

@@ -1,7 +1,9 @@
 -- The words of demand 2: a cut within document 01's bounds, its fragments and its check record, and records that hold enough of them.
-use Rattle.std.specs.Prelude.{◌≡◌, ◌≢◌, ◌⊎◌, true, List, ℕ, ◌%◌, ◌^◌, ◌<◌, ◌≤◌, length}
+use Rattle.std.specs.Prelude.{◌≡◌, ◌≢◌, ◌⊎◌, true, List, ℕ, ◌*◌, ◌%◌, ◌^◌, ◌<◌, ◌≤◌, length}
 use Rattle.limits.specs.Limits.{longest_block, largest_seed}
 use Rattle.algebra.specs.Several.{All, Distinct}
+use Rattle.code.specs.Cutting.{filled, body}
+use Rattle.code.specs.Joining.{joined}
 use Rattle.record.specs.Layout.{written_version}
 use Rattle.record.specs.Records.{fragment_record}
 use Rattle.record.specs.Heads.{counts_fit}
@@ -46,3 +48,15 @@ AnyGiveBack =
     → (records out indexes : List ℕ) → Holds m n number block (cut.check m n seed number block) records indexes → length out ≡ length block
     → (join_number number (cut.check m n seed number block) records out ≡ 0)
     × (join_output number (cut.check m n seed number block) records out ≡ block)
+
+-- "The block is filled with zero bytes": the block so filled has the block's bodies
+abbrev pub FilledBody : Type 0
+FilledBody = (m F : ℕ) (block : List ℕ) (i : ℕ) → body m F (filled m F block) i ≡ body m F block i
+
+-- and any m of these with different indexes give it back, filled
+abbrev pub AnyFilled : Type 0
+AnyFilled =
+    (m F : ℕ) → m ≤ 256 → (block : List ℕ) → All (λ b. b < 256) block → length block ≤ m * F
+    → (indexes : List ℕ) → All (λ i. i < 256) indexes → Distinct indexes → length indexes ≡ m
+    → (bodies : ℕ → List ℕ) → All (λ i. bodies i ≡ body m F block i) indexes
+    → joined m F indexes bodies ≡ filled m F block

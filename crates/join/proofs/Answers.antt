@@ -1,7 +1,7 @@
 -- What a join answers and leaves in the output: each way out, from the tests that led there.
 use mathlib.Core.Path.{◌≡◌, refl, sym, ap, ap₂, subst, subst₂, ◌∙◌}
 use mathlib.Core.Bool.{Bool, true, false, cond}
-use mathlib.Core.List.{List}
+use mathlib.Core.List.{List, map}
 use Prim.Native.Nat.{ℕ, ◌+◌, ◌-◌, ◌*◌, ◌<◌, ◌≤◌}
 use native.Mathlib.Omega.{arith}
 use lib.Dec.{eqb, leb}
@@ -11,6 +11,8 @@ use borrow.Author.Tests.{eq-eqb, ne_eqb, leb-true, eqb-true}
 use Rattle.limits.specs.Limits.{most_fragments, longest_block}
 use Rattle.algebra.specs.Several.{listed, All, Distinct}
 use Rattle.algebra.proofs.Several.{all_both, all_map}
+use Rattle.field.specs.Byte.{bytes}
+use Rattle.code.specs.Weights.{spread}
 use Rattle.code.specs.Cutting.{body_length}
 use Rattle.code.proofs.Plain.{Small}
 use Rattle.record.specs.declared.CheckHead.{CheckHead}
@@ -22,12 +24,13 @@ use Rattle.inspect.proofs.Exact.{accepted_exactly, all_hold}
 use Rattle.inspect.proofs.Called.{index_below}
 use Rattle.inspect.proofs.Shaped.{both_left, both_right}
 use Rattle.gather.specs.declared.Gathered.{Gathered}
-use Rattle.gather.specs.Gather.{Used, stride, count_of, read_count, of_255, held, gathered}
-use Rattle.gather.proofs.Used.{indexes, Sound, sound}
+use Rattle.gather.specs.declared.Used.{Used}
+use Rattle.gather.specs.Gather.{stride, count_of, read_count, gathered}
+use Rattle.gather.proofs.Uses.{indexes, Sound, sound}
 use Rattle.gather.proofs.Places.{place_within}
-use Rattle.gather.proofs.Holding.{indexes_held}
 use Rattle.join.specs.declared.Joined.{Joined}
 use Rattle.join.specs.Join.{all_used, padded, all_zero, lengths_fit, join_number, counted, join_answer, join_output}
+use Rattle.join.specs.Fit.{Fit}
 use Rattle.join.specs.Parts.{block_byte}
 use Rattle.join.proofs.Tested.{tests}
 use Rattle.join.proofs.Found.{places, take_listed, drop_listed, room, fill_short, block_joined}
@@ -143,42 +146,28 @@ module _ (wanted : ℕ) (check records out : List ℕ) where
   unfolding join_output
   left n e = sym (ap (λ (k : ℕ). cond (eqb k 0) (take c.length (padded wanted check records)) out) e)
 
-  module _ (g : Gathered) (eg : g ≡ gathered wanted check records) where
-    pub count_is : g.count ≡ length us
-    unfolding gathered held
-    count_is = ap (λ (h : Gathered). h.count) eg
+  module _ (g : Gathered) (eg : g ≡ gathered wanted check records) (seen : List Used) (lent : seen ≡ g.used.items) where
+    used_are : seen ≡ us
+    unfolding gathered
+    used_are = lent ∙ ap (λ (h : Gathered). h.used.items) eg
+
+    count_is : length seen ≡ length us
+    count_is = ap length used_are
 
     read_is : g.read ≡ read_count c.m us (count_of check records)
-    unfolding gathered held
-    read_is = ap (λ (h : Gathered). h.read) eg
-
-    kept : g ≡ held us g.read
     unfolding gathered
-    kept = eg ∙ ap (held us) (sym read_is)
-
-    pub indexes_are : take g.count g.indexes ≡ indexes us
-    indexes_are = indexes_held g us kept
-
-    pub places_are : take g.count g.places ≡ places us
-    unfolding held of_255
-    places_are = ap₂ take count_is (ap (λ (h : Gathered). h.places) kept) ∙ take_at (places us) _ (length us) (length-map us (λ u. u.place))
-
-    pub indexes_count : g.count ≡ length (take g.count g.indexes)
-    indexes_count = count_is ∙ sym (ap length indexes_are ∙ length-map us (λ u. u.index))
-
-    pub places_count : g.count ≡ length (take g.count g.places)
-    places_count = count_is ∙ sym (ap length places_are ∙ length-map us (λ u. u.place))
+    read_is = ap (λ (h : Gathered). h.read) eg
 
     module _ (P : Passed) where
       -- 13, where fewer than m are used
-      pub too_few : (m : ℕ) → m ≡ c.m → (g.count ≡ m → ⊥) → Goal (record { number = 13; read = g.read; indexes = g.count }) out
+      pub too_few : (m : ℕ) → m ≡ c.m → (length seen ≡ m → ⊥) → Goal (record { number = 13; read = g.read; indexes = length seen }) out
       unfolding join_number counted
-      too_few m em ne = (told 13 13 g.read g.count refl e refl read_is count_is, left 13 e)
+      too_few m em ne = (told 13 13 g.read (length seen) refl e refl read_is count_is, left 13 e)
         where
           e : join_number wanted check records out ≡ 13
           e = simp (P.marked, P.shaped, P.number, P.fits, ne_eqb (length us) c.m (λ z. ne (count_is ∙ z ∙ sym em)))
 
-      module _ (bytes : All Small records) (full : g.count ≡ c.m) where
+      module _ (bytes_are : All Small records) (full : length seen ≡ c.m) where
         k : Counts c
         k = counts check P.shaped
 
@@ -197,13 +186,6 @@ module _ (wanted : ℕ) (check records out : List ℕ) where
             all_map Small (λ u. u.index) us
             (all_both (λ u h a. subst Small a.1 (omega (arith, index_of wanted check _ a.0, k.few))) us s.before s.accepted)
 
-        -- what `rebuild` asks
-        abbrev Ready : List ℕ → List ℕ → ℕ → ℕ → Type 0
-        Ready is ps size step =
-            ((length out ≤ length is * size) × (length is * size < length out + 768))
-            × (((size ≤ step) × ((length is ≤ 255) × Distinct is))
-            × ((length ps ≡ length is) × All (λ p. p * step + step ≤ length records) ps))
-
         roomy : (length out ≤ length (indexes us) * size_of check) × (length (indexes us) * size_of check < length out + 768)
         unfolding size_of
         roomy =
@@ -214,53 +196,70 @@ module _ (wanted : ℕ) (check records out : List ℕ) where
         unfolding stride
         wide = omega arith
 
-        pub ready : (is ps : List ℕ) (size step : ℕ) → is ≡ indexes us → ps ≡ places us → size ≡ size_of check → step ≡ stride check → Ready is ps size step
-        ready is ps size step ei ep es et =
-            subst₂ (λ (a b : List ℕ). Ready a b size step) (sym ei) (sym ep)
-            (subst₂ (λ (x y : ℕ). Ready (indexes us) (places us) x y) (sym es) (sym et) (
-              roomy,
-              (
-                (wide, (omega (arith, many, k.fewer, k.few), s.different)),
-                (
-                  length-map us (λ u. u.place) ∙ sym (length-map us (λ u. u.index)),
-                  all_map _ (λ u. u.place) us (all_both (λ u h a. place_within check records u.place (stride check) refl h) us s.before s.accepted),
-                ),
-              ),
-            ))
-
         block : padded wanted check records ≡ listed (c.m * size_of check) (block_byte (indexes us) (places us) records (stride check) (size_of check))
         unfolding padded
-        block = block_joined check records us small s.different bytes c.m (omega (arith, k.fewer, k.few))
+        block = block_joined check records us small s.different bytes_are c.m (omega (arith, k.fewer, k.few))
 
         last_number : join_number wanted check records out ≡ cond (all_zero (drop c.length (padded wanted check records))) 0 14
         unfolding join_number
         last_number = simp (P.marked, P.shaped, P.number, P.fits, eq-eqb (length us) c.m (sym count_is ∙ full))
 
-        -- the look at the fill, and 0 with the block or 14 with nothing written
-        module _ (is ps : List ℕ) (size step : ℕ) (ei : is ≡ indexes us) (ep : ps ≡ places us) (es : size ≡ size_of check) (et : step ≡ stride check) where
-          fill : listed (length is * size - length out) (λ j. block_byte is ps records step size (length out + j)) ≡ drop c.length (padded wanted check records)
-          fill =
-              (λ i. listed (length (ei i) * es i - length out) (λ j. block_byte (ei i) (ep i) records (et i) (es i) (length out + j)))
-              ∙ (λ i. listed (many i * size_of check - exact i) (λ j. block_byte (indexes us) (places us) records (stride check) (size_of check) (exact i + j)))
-              ∙ sym (ap (drop c.length) block ∙ drop_listed c.length (c.m * size_of check) _)
+        module _ (is ps : List ℕ) (step : ℕ) (ei : is ≡ indexes seen) (ep : ps ≡ places seen) (et : step ≡ stride check) where
+          ei-us : is ≡ indexes us
+          ei-us = ei ∙ ap indexes used_are
 
-          whole : listed (length out) (block_byte is ps records step size) ≡ take c.length (padded wanted check records)
-          whole =
-              (λ i. listed (exact i) (block_byte (ei i) (ep i) records (et i) (es i)))
-              ∙ sym (ap (take c.length) block ∙ take_listed c.length (c.m * size_of check) _ (subst₂ (λ (L m : ℕ). L ≤ m * size_of check) exact many roomy.0))
+          ep-us : ps ≡ places us
+          ep-us = ep ∙ ap places used_are
 
-          pub rebuilt : (r : ℕ) (after : List ℕ)
-              → r ≡ cond (all_zero (listed (length is * size - length out) (λ j. block_byte is ps records step size (length out + j)))) 0 14
-              → after ≡ cond (eqb r 0) (listed (length out) (block_byte is ps records step size)) out
-              → Goal (record { number = r; read = g.read; indexes = g.count }) after
-          rebuilt r after er ea = (
-            told r r g.read g.count refl e (full_counts (all_zero (drop c.length (padded wanted check records))) (sym e ∙ last_number)) read_is count_is,
-            ea ∙ ap (λ (l : List ℕ). cond (eqb r 0) l out) whole ∙ left r e,
-          )
-            where
-              e : join_number wanted check records out ≡ r
-              e = last_number ∙ sym (er ∙ ap (λ (l : List ℕ). cond (all_zero l) 0 14) fill)
+          -- the sources fit together
+          pub fit : (spreads : List ℕ) → spreads ≡ map (spread bytes is) is → Fit records step is spreads ps
+          fit spreads es =
+              record {
+                few = omega (arith, ap length ei-us, many, k.fewer, k.few);
+                small = subst (All Small) (sym ei-us) small;
+                different = subst Distinct (sym ei-us) s.different;
+                spread_out = es;
+                same_count = ap length ep-us ∙ length-map us (λ u. u.place) ∙ sym (ap length ei-us ∙ length-map us (λ u. u.index));
+                whole = subst₂ (λ (l : List ℕ) (t : ℕ). All (λ p. p * t + t ≤ length records) l) (sym ep-us) (sym et)
+                    (all_map _ (λ u. u.place) us (all_both (λ u h a. place_within check records u.place (stride check) refl h) us s.before s.accepted));
+              }
 
-              full_counts : (z : Bool) → r ≡ cond z 0 14 → counted r ≡ true
-              full_counts true h = ap counted h ∙ counted_0
-              full_counts false h = ap counted h ∙ counted_14
+          module _ (size : ℕ) (es : size ≡ size_of check) where
+            -- what `rebuild` asks
+            pub ready : ((length out ≤ length is * size) × (length is * size < length out + 768)) × (size ≤ step)
+            ready = (
+              subst₂ (λ (l : List ℕ) (x : ℕ). (length out ≤ length l * x) × (length l * x < length out + 768)) (sym ei-us) (sym es) roomy,
+              subst₂ ◌≤◌ (sym es) (sym et) wide,
+            )
+
+            fill : listed (length is * size - length out) (λ j. block_byte is ps records step size (length out + j)) ≡ drop c.length (padded wanted check records)
+            fill =
+                (λ i. listed (length (ei-us i) * es i - length out) (λ j. block_byte (ei-us i) (ep-us i) records (et i) (es i) (length out + j)))
+                ∙ (λ i. listed (many i * size_of check - exact i) (λ j. block_byte (indexes us) (places us) records (stride check) (size_of check) (exact i + j)))
+                ∙ sym (ap (drop c.length) block ∙ drop_listed c.length (c.m * size_of check) _)
+
+            whole : listed (length out) (block_byte is ps records step size) ≡ take c.length (padded wanted check records)
+            whole =
+                (λ i. listed (exact i) (block_byte (ei-us i) (ep-us i) records (et i) (es i)))
+                ∙ sym (ap (take c.length) block ∙ take_listed c.length (c.m * size_of check) _ (subst₂ (λ (L m : ℕ). L ≤ m * size_of check) exact many roomy.0))
+
+            -- the look at the fill: 0 with the block, or 14 with nothing written
+            pub rebuilt : (b : Bool) (after : List ℕ)
+                → b ≡ all_zero (listed (length is * size - length out) (λ j. block_byte is ps records step size (length out + j)))
+                → after ≡ cond b (listed (length out) (block_byte is ps records step size)) out
+                → (x : Bool) → b ≡ x → Goal (record { number = cond x 0 14; read = g.read; indexes = length seen }) after
+            rebuilt b after eb ea x ex = (
+              told _ _ g.read (length seen) refl e (full_counts x) read_is count_is,
+              ea ∙ (λ i. cond (ex i) (whole i) out) ∙ kept x ∙ left (cond x 0 14) e,
+            )
+              where
+                e : join_number wanted check records out ≡ cond x 0 14
+                e = last_number ∙ ap {B = ℕ} (λ (z : Bool). cond z 0 14) (ap all_zero (sym fill) ∙ sym eb ∙ ex)
+
+                full_counts : (z : Bool) → counted (cond z 0 14) ≡ true
+                full_counts true = counted_0
+                full_counts false = counted_14
+
+                kept : (z : Bool) → cond z (take c.length (padded wanted check records)) out ≡ cond (eqb (cond z 0 14) 0) (take c.length (padded wanted check records)) out
+                kept true = refl
+                kept false = refl

@@ -114,37 +114,3 @@ pub block_start : (indexes places records : List ℕ) (stride size n : ℕ) (out
     → out ≡ listed n (block_byte indexes places records stride size)
 block_start indexes places records stride size n out e =
     e ∙ listed_same n _ _ (λ k h. ap (block_byte indexes places records stride size) (zero-add k))
-
--- the number that the look at the fill gives
-pub fill_looked : (t : Bool) (fill : List ℕ) → t ≡ all_zero fill → ◌≡◌ {A = ℕ} (cond t 0 14) (cond (all_zero fill) 0 14)
-fill_looked t fill e = ap {B = ℕ} (λ (b : Bool). cond b 0 14) e
-
--- an output that a number other than 0 leaves, and one that goes with 0
-pub number_keeps : (r : ℕ) (block out : List ℕ) → (r ≡ 0 → ⊥) → out ≡ cond (eqb r 0) block out
-number_keeps r block out h = sym (ap (λ (b : Bool). cond b block out) (ne_eqb r 0 h))
-
-pub number_gives : (r : ℕ) (block out : List ℕ) → r ≡ 0 → block ≡ cond (eqb r 0) block out
-number_gives r block out h = sym (ap (λ (b : Bool). cond b block out) (eq-eqb r 0 h))
-
--- zero bytes from the end on, all of them, and one that is none
-pub zero_none : (s : List ℕ) → all_zero (drop (length s) s) ≡ true
-unfolding all_zero
-zero_none s = ap all_zero (drop-length s)
-
-pub zero_more : (s : List ℕ) (k : ℕ) → 0 < k → k ≤ length s → get_or s (k - 1) 0 ≡ 0 → all_zero (drop k s) ≡ true → all_zero (drop (k - 1) s) ≡ true
-unfolding all_zero
-zero_more s k some within e h =
-    ap all_zero (dropped s k 0 some within) ∙ ap₂ ◌&&◌ (eq-eqb (get_or s (k - 1) 0) 0 e) h
-
-pub zero_all : (s : List ℕ) (k : ℕ) → k ≤ 0 → all_zero (drop k s) ≡ true → true ≡ all_zero s
-zero_all s k h e = sym e ∙ ap (λ (j : ℕ). all_zero (drop j s)) (let z : k ≡ 0 = omega arith in z)
-
-and_false : (a : Bool) → a && false ≡ false
-and_false true = refl
-and_false false = refl
-
-pub zero_not : (s : List ℕ) (k : ℕ) → k < length s → (get_or s k 0 ≡ 0 → ⊥) → false ≡ all_zero s
-unfolding all_zero
-zero_not [] k h ne = absurd (not-suc-le-zero h)
-zero_not (b ∷ s) zero h ne = sym (ap (λ (x : Bool). x && all_zero s) (ne_eqb b 0 ne))
-zero_not (b ∷ s) (suc k) h ne = sym (ap (λ (x : Bool). eqb b 0 && x) (sym (zero_not s k (le_of_suc-le-suc h) ne)) ∙ and_false (eqb b 0))

@@ -21,8 +21,9 @@ use Rattle.code.proofs.Bodies.{get_or_small, row, place}
 use Rattle.record.specs.Layout.{body_place}
 use Rattle.record.specs.Heads.{check_head_of}
 use Rattle.inspect.specs.Check.{size_of, body_of}
-use Rattle.gather.specs.Gather.{Used, stride, record_at}
-use Rattle.gather.proofs.Used.{indexes}
+use Rattle.gather.specs.declared.Used.{Used}
+use Rattle.gather.specs.Gather.{stride, record_at}
+use Rattle.gather.proofs.Uses.{indexes}
 use Rattle.join.specs.Join.{body_with}
 use Rattle.join.specs.Parts.{mixed, block_byte}
 

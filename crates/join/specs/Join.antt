@@ -1,9 +1,11 @@
 -- Joining a block from records: the answer with its two counts, and what the output holds.
-use Rattle.std.specs.Prelude.{Bool, true, false, ◌&&◌, cond, List, [], ◌∷◌, map, ℕ, ◌%◌, eqb, leb, length, take, drop}
+use Rattle.std.specs.Prelude.{Bool, true, false, ◌&&◌, ◌==◌, cond, List, [], ◌∷◌, map, ℕ, ◌%◌, eqb, leb, length, take, drop}
+use Rattle.std.specs.List.{list_all}
 use Rattle.code.specs.Joining.{joined}
 use Rattle.record.specs.Heads.{check_head_of, check_marked, check_shaped}
 use Rattle.inspect.specs.Check.{size_of, body_of}
-use Rattle.gather.specs.Gather.{Used, stride, record_at, used, count_of, read_count}
+use Rattle.gather.specs.declared.Used.{Used}
+use Rattle.gather.specs.Gather.{stride, record_at, used, count_of, read_count}
 use Rattle.join.specs.declared.Joined.{Joined}
 
 -- the body, among the used records, with index i
@@ -22,9 +24,8 @@ padded wanted check records =
     let us = all_used wanted check records in
     joined (check_head_of check).m (size_of check) (map (λ u. u.index) us) (body_with check records us)
 
-unfoldable pub all_zero : List ℕ → Bool
-all_zero [] = true
-all_zero (b ∷ bs) = eqb b 0 && all_zero bs
+abbrev pub all_zero : List ℕ → Bool
+all_zero bs = list_all (λ b. b == 0) bs
 
 -- 4 is given unless this holds: "output; then records whose total isn't a whole number of 18 + F, or k over n"
 unfoldable pub lengths_fit : List ℕ → List ℕ → List ℕ → Bool

@@ -5,9 +5,12 @@
 mod block;
 mod refusal;
 mod regain;
+mod sources;
 
 ghost use Rattle.std.specs.Prelude.{◌≡◌};
 ghost use Rattle.join.specs.Join as joining;
+
+use sources::Sources;
 
 // What a join answers: the number, how many records were read, and how many different indexes were accepted.
 #[derive(Clone, Copy)]
@@ -30,9 +33,10 @@ pub fn join(wanted: u64, check: &[u8], records: &[u8], out: &mut [u8]) -> Joined
         };
     }
     let held = gather::gather(wanted, check, records);
-    let head = record::read_check(check);
-    let count = held.count;
+    let used = held.used.as_slice();
+    let count = used.len();
     let read = held.read as u64;
+    let head = record::read_check(check);
     if count != head.m as usize {
         return Joined {
             number: 13,
@@ -40,20 +44,22 @@ pub fn join(wanted: u64, check: &[u8], records: &[u8], out: &mut [u8]) -> Joined
             indexes: count as u64,
         };
     }
-    let indexes = held.indexes;
-    let places = held.places;
-    let size = code::body_length(head.length, head.m);
-    let stride = gather::stride(check);
-    let number = block::rebuild(
-        out,
-        size,
+    let mut indexes = [0u8; 255];
+    let mut places = [0usize; 255];
+    let mut spreads = [0u8; 255];
+    sources::apart(used, &mut indexes[..count], &mut places[..count]);
+    code::each_spread(&indexes[..count], &mut spreads[..count]);
+    let sources = Sources {
         records,
-        stride,
-        &indexes[..count],
-        &places[..count],
-    );
+        stride: gather::stride(check),
+        indexes: &indexes[..count],
+        spreads: &spreads[..count],
+        places: &places[..count],
+    };
+    let size = code::body_length(head.length, head.m);
+    let rebuilt = block::rebuild(out, sources, size);
     Joined {
-        number,
+        number: if rebuilt { 0 } else { 14 },
         read,
         indexes: count as u64,
     }

@@ -21,7 +21,7 @@ pub use shape::{check_marked, check_shaped, counts_fit, fragment_shaped};
 pub use write::{put, write_check_head, write_fragment_head};
 
 // What stands before the hashes of a check record.
-#[derive(Clone, Copy)]
+#[derive(Clone, Copy, Debug, PartialEq, Eq, Hash)]
 pub struct CheckHead {
     pub version: u16,
     pub number: u64,

@@ -35,18 +35,6 @@ pub(crate) fn bytes_at<const N: usize>(s: &[u8], at: usize) -> [u8; N]
     bytes
 }
 
-#[tactic(auto, unfolding(crate::specs::Layout::column_at))]
-fn column_at(s: &[u8], at: usize) -> Column
-    requires { at < 65536 }
-    ensures { result ≡ layout.column_at at s.now }
-{
-    Column {
-        a: byte_at(s, at),
-        b: byte_at(s, at + 1),
-        c: byte_at(s, at + 2),
-    }
-}
-
 #[tactic(auto, unfolding(crate::specs::Heads::version_of), using(crate::proofs::Bytes::two_bytes))]
 pub(crate) fn version_of(s: &[u8]) -> u16
     ensures { result ≡ heads.version_of s.now }
@@ -54,7 +42,7 @@ pub(crate) fn version_of(s: &[u8]) -> u16
     u16::from_be_bytes(bytes_at(s, VERSION_AT))
 }
 
-#[tactic(auto, unfolding(crate::specs::Heads::check_head_of, crate::specs::Layout::head), using(crate::proofs::Bytes::four_bytes, crate::proofs::Bytes::eight_bytes))]
+#[tactic(auto, unfolding(crate::specs::Heads::check_head_of, crate::specs::Layout::head, crate::specs::Layout::column_at), using(crate::proofs::Bytes::four_bytes, crate::proofs::Bytes::eight_bytes))]
 pub fn read_check(check: &[u8]) -> CheckHead
     ensures { result ≡ heads.check_head_of check.now }
 {
@@ -66,7 +54,7 @@ pub fn read_check(check: &[u8]) -> CheckHead
         length: u32::from_be_bytes(bytes_at(check, at)),
         m: byte_at(check, at + M_BEHIND),
         n: byte_at(check, at + N_BEHIND),
-        seed: column_at(check, at + SEED_BEHIND),
+        seed: Column::from(bytes_at(check, at + SEED_BEHIND)),
     }
 }
 

@@ -29,14 +29,14 @@ fn front(mark: [u8; 3], version: u16, number: u64) -> [u8; 13]
     bytes
 }
 
-// The 22 bytes before the hashes: L at 13, m at 17, n, the seed column.
+// The 22 bytes before the hashes: L at 13, m and n at 17, the seed column at 19.
 #[tactic(auto, unfolding(crate::specs::Records::check_head), using(std::proofs::lemmas::Grind::common_steps, crate::proofs::Bytes::four_digits))]
 fn check_head(head: CheckHead) -> [u8; 22]
     ensures { result ≡ records.check_head head.version head.number head.length head.m head.n head.seed }
 {
-    let seed = head.seed;
     let mut bytes = [0; 22];
-    bytes[17..].copy_from_slice(&[head.m, head.n, seed.a, seed.b, seed.c]);
+    bytes[19..].copy_from_slice(&head.seed.to_bytes());
+    bytes[17..19].copy_from_slice(&[head.m, head.n]);
     bytes[13..17].copy_from_slice(&head.length.to_be_bytes());
     bytes[..13].copy_from_slice(&front(CHECK_MARK, head.version, head.number));
     bytes

@@ -1,10 +1,9 @@
 -- The end of a message, rest with the padding after it: how long it is, and a word in bytes.
 -- Assumes nothing.
-use Rattle.std.proofs.Common.{◌≡◌, ℕ, zero, suc, ◌+◌, ◌-◌, ◌*◌, ◌/◌, ◌%◌, ◌^◌, ◌<◌, ◌≤◌, List, [], ◌∷◌, ◌++◌, length, get_or, take, set, replicate, sym, refl, ap, ◌∙◌, ap₂, append_assoc, add-sub_of_le, add-one, arith, length-append, take_all, take-suc, take-suc-set, get_or-append-add}
-use native.Mathlib.Nat.{mul-div-mul_left}
+use Rattle.std.proofs.Common.{◌≡◌, ℕ, zero, suc, ◌+◌, ◌-◌, ◌*◌, ◌/◌, ◌%◌, List, [], ◌∷◌, ◌++◌, length, replicate, sym, refl, ap, ◌∙◌, arith, length-append}
 use Rattle.std.proofs.Math.Nat.{div-one}
 use Rattle.std.specs.Int.{w32, to_be_bytes}
-use lib.ListN.{length-replicate, get_or-replicate, get_or-append}
+use lib.ListN.{length-replicate}
 use Rattle.sha256.specs.Fips180.{bytes, padding}
 
 length_bytes : (n x : ℕ) → length (bytes n x) ≡ n

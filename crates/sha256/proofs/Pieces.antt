@@ -1,6 +1,6 @@
 -- Hashing in pieces: the hash value after some blocks, and then after what follows them, is that after all.
 -- Assumes nothing.
-use Rattle.std.proofs.Common.{◌≡◌, ℕ, zero, suc, ◌+◌, ◌-◌, ◌*◌, ◌/◌, ◌≤◌, List, [], ◌++◌, length, take, drop, sym, refl, ap, ◌∙◌, ap₂, append_assoc, add-zero, add-suc, zero-add, add-one, one-add, arith, length-append, length-drop, drop_of_length-le, length-take-le, take_all, drop-drop, drop_at}
+use Rattle.std.proofs.Common.{◌≡◌, ℕ, zero, suc, ◌+◌, ◌*◌, ◌/◌, ◌≤◌, List, [], ◌++◌, length, take, drop, sym, refl, ap, ◌∙◌, ap₂, append_assoc, add-zero, add-suc, zero-add, add-one, one-add, arith, length-append, length-drop, drop_of_length-le, take_all, drop-drop, drop_at}
 use Rattle.std.specs.List.{fold}
 use Rattle.std.specs.Simd.{first_chunks}
 use lib.Seq.{take-append-le, drop-append-le}

@@ -1,11 +1,11 @@
 -- The schedule in a ring of sixteen words, in which each word gives way, after its turn, to the one that is due sixteen turns
 -- later; and the turns over it. Assumes nothing.
-use Rattle.std.proofs.Common.{◌≡◌, ℕ, zero, suc, ◌+◌, ◌-◌, ◌%◌, ◌<◌, ◌≤◌, List, [], ◌∷◌, length, get_or, take, drop, set, sym, refl, ap, ◌∙◌, ap₂, add-zero, add-suc, arith, length-append, length-drop, length-take-le, take_all, drop-cons, le-ltb}
+use Rattle.std.proofs.Common.{◌≡◌, ℕ, zero, suc, ◌+◌, ◌-◌, ◌%◌, ◌<◌, ◌≤◌, List, [], ◌∷◌, length, get_or, take, drop, set, sym, refl, ap, ◌∙◌, ap₂, add-zero, add-suc, arith, length-append, take_all, drop-cons, le-ltb}
 use native.Mathlib.Decide.{le_ind}
 use lib.ListN.{get_or-append}
 use lib.Seq.{get_or_at, take-append-le}
 use Rattle.sha256.specs.declared.State.{State}
-use Rattle.sha256.specs.Fips180.{◌⊞◌, word, Ch, Maj, Σ₀, Σ₁, σ₀, σ₁, K, Wₜ, W, turn, turns}
+use Rattle.sha256.specs.Fips180.{◌⊞◌, word, σ₀, σ₁, K, Wₜ, W, turn, turns}
 
 -- the second case of the definition
 late : (m w : List ℕ) (t : ℕ) → 16 ≤ t

@@ -59,7 +59,8 @@ fn first(m: &[u8; 64]) -> [u32; 16]
     w
 }
 
-// Sixteen turns; w goes from the words of these to those of the next sixteen. In a straight line no variable is ever moved.
+// Sixteen turns; w goes from the words of these to those of the next sixteen.
+// A straight line and no loop, so that no variable is ever moved: a loop misses the speed asked (docs/DECISIONS.md, 31).
 fn along(s: State, k: &[u32], w: &mut [u32; 16]) -> State
     requires { length k.now ≡ 16 }
     ensures { (m : List ℕ) (v : FipsState) (t : ℕ) → t ≤ 32 → k.now ≡ take 16 (drop t fips_K) → w.old ≡ take 16 (drop t (W 64 m)) → s ≡ turns t (W 64 m) v → (result ≡ turns (t + 16) (W 64 m) v) × (w.new ≡ take 16 (drop (t + 16) (W 64 m))) }
@@ -83,27 +84,27 @@ fn along(s: State, k: &[u32], w: &mut [u32; 16]) -> State
     v
 }
 
-// The last sixteen turns, after which no word is due.
+// The last sixteen turns, after which no word is due; a straight line for the same reason.
 fn last(s: State, k: &[u32], w: &[u32; 16]) -> State
     requires { length k.now ≡ 16 }
     ensures { (m : List ℕ) (v : FipsState) (t : ℕ) → t ≤ 48 → k.now ≡ take 16 (drop t fips_K) → w.now ≡ take 16 (drop t (W 64 m)) → s ≡ turns t (W 64 m) v → result ≡ turns (t + 16) (W 64 m) v }
 {
-    let v = turn_at(s, k, w, 0);
-    let v = turn_at(v, k, w, 1);
-    let v = turn_at(v, k, w, 2);
-    let v = turn_at(v, k, w, 3);
-    let v = turn_at(v, k, w, 4);
-    let v = turn_at(v, k, w, 5);
-    let v = turn_at(v, k, w, 6);
-    let v = turn_at(v, k, w, 7);
-    let v = turn_at(v, k, w, 8);
-    let v = turn_at(v, k, w, 9);
-    let v = turn_at(v, k, w, 10);
-    let v = turn_at(v, k, w, 11);
-    let v = turn_at(v, k, w, 12);
-    let v = turn_at(v, k, w, 13);
-    let v = turn_at(v, k, w, 14);
-    let v = turn_at(v, k, w, 15);
+    let v = turn(s, k[0], w[0]);
+    let v = turn(v, k[1], w[1]);
+    let v = turn(v, k[2], w[2]);
+    let v = turn(v, k[3], w[3]);
+    let v = turn(v, k[4], w[4]);
+    let v = turn(v, k[5], w[5]);
+    let v = turn(v, k[6], w[6]);
+    let v = turn(v, k[7], w[7]);
+    let v = turn(v, k[8], w[8]);
+    let v = turn(v, k[9], w[9]);
+    let v = turn(v, k[10], w[10]);
+    let v = turn(v, k[11], w[11]);
+    let v = turn(v, k[12], w[12]);
+    let v = turn(v, k[13], w[13]);
+    let v = turn(v, k[14], w[14]);
+    let v = turn(v, k[15], w[15]);
     v
 }
 
@@ -116,14 +117,6 @@ fn turn_and_word(v: State, k: &[u32], w: &mut [u32; 16], i: usize) -> State
     let r = turn(v, k[i], w[i]);
     w[i] = scheduled(w[(i + 14) % 16], w[(i + 9) % 16], w[(i + 1) % 16], w[i]);
     r
-}
-
-// Turn i of sixteen.
-fn turn_at(v: State, k: &[u32], w: &[u32; 16], i: usize) -> State
-    requires { (length k.now ≡ 16) × (i < 16) }
-    ensures { result ≡ fips_turn v (slice_index k.now i) (slice_index w.now i) }
-{
-    turn(v, k[i], w[i])
 }
 
 // A word of the schedule, from those 2, 7, 15 and 16 before it.
@@ -141,11 +134,12 @@ fn scheduled(w2: u32, w7: u32, w15: u32, w16: u32) -> u32
 fn turn(v: State, k: u32, w: u32) -> State
     ensures { result ≡ fips_turn v k w }
 {
-    let t1 =
-        v.h.wrapping_add(upper_sigma_1(v.e))
-            .wrapping_add(ch(v.e, v.f, v.g))
-            .wrapping_add(k)
-            .wrapping_add(w);
+    let t1 = v
+        .h
+        .wrapping_add(upper_sigma_1(v.e))
+        .wrapping_add(ch(v.e, v.f, v.g))
+        .wrapping_add(k)
+        .wrapping_add(w);
     let t2 = upper_sigma_0(v.a).wrapping_add(maj(v.a, v.b, v.c));
     State {
         a: t1.wrapping_add(t2),

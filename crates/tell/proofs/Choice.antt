@@ -41,9 +41,6 @@ refused_is m n seed block a b ea eb =
     ap (λ (fit : Bool). cond (counts_fit m n) (cond (leb (length block) longest_block) (cond (leb seed largest_seed) (cond fit 0 4) 3) 2) 1)
     (buffers_same m n block a b _ _ (ea ∙ sym (length-replicate _ 0)) (eb ∙ sym (length-replicate _ 0)))
 
-pub written : (number : ℕ) (bytes before : List ℕ) → number ≡ 0 → held number bytes before ≡ bytes
-written number bytes before e = simp (eq-eqb number 0 e)
-
 module _ (m n seed number : ℕ) (block : List ℕ) where
   head_back : number < 2 ^ 64 → length block < 2 ^ 32
       → record { version = written_version; number = number; length = length block; m = m; n = n; seed = from_seed seed } ≡ check_head_of (check m n seed number block)

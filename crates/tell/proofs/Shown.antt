@@ -16,7 +16,6 @@ use Rattle.code.specs.Cutting.{body_length}
 use Rattle.column.specs.declared.Column.{Column}
 use Rattle.fingerprint.specs.Answer.{Fingerprinted, fingerprinted}
 use Rattle.cut.specs.Cut.{body_among}
-use Rattle.cut.proofs.Among.{among_part}
 use Rattle.join.specs.declared.Joined.{Joined}
 use Rattle.join.specs.Join.{join_answer}
 use Rattle.record.specs.declared.CheckHead.{CheckHead}
@@ -111,13 +110,12 @@ module _ (F seed : ℕ) (records : List ℕ) where
       (omega (arith, length-drop (i * record_length written_version F + body_place written_version) records))
 
   -- the fingerprint of a body that is not refused
-  pub print_is : (i whole place : ℕ) (p : Fingerprinted) → whole ≡ record_length written_version F → place ≡ body_place written_version
+  pub print_is : (i : ℕ) (p : Fingerprinted)
       → i * record_length written_version F + record_length written_version F ≤ length records → F ≤ longest_body → F % 3 ≡ 0 → seed ≤ largest_seed
-      → p ≡ fingerprinted seed (take (i * whole + place + F - (i * whole + place)) (drop (i * whole + place) records))
-      → p.column ≡ print_among F seed records i
+      → p ≡ fingerprinted seed (body_among F records i) → p.column ≡ print_among F seed records i
   unfolding fingerprinted print_among
-  print_is i whole place p ew ep within short columns known e =
-      ap (λ (x : Fingerprinted). x.column) (e ∙ ap (fingerprinted seed) (among_part F records i whole place ew ep))
+  print_is i p within short columns known e =
+      ap (λ (x : Fingerprinted). x.column) e
       ∙ simp (le-ltb longest_body (length body) (omega (arith, long)), le-ltb largest_seed seed known, eq-eqb (length body % 3) 0 (ap (λ (k : ℕ). k % 3) long ∙ columns))
     where
       body : List ℕ

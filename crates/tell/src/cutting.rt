@@ -56,9 +56,8 @@ fn cut_within(
     ensures value { result ≡ length (told.told m n seed number block.now) }
     ensures text_after { text.new ≡ parts.placed text.old 0 (told.told m n seed number block.now) }
 {
-    let refused = cut::cut(m as u32, n as u32, seed, number, block, fragments, check);
-    if refused != 0 {
-        return add_refusal(text, 0, refused);
+    match cut::cut(m as u32, n as u32, seed, number, block, fragments, check) {
+        Ok(()) => add_all(text, m, n, seed, number, block.len(), check, fragments),
+        Err(refusal) => add_refusal(text, 0, refusal.number()),
     }
-    add_all(text, m, n, seed, number, block.len(), check, fragments)
 }

@@ -24,10 +24,7 @@ fn print_among(size: u32, seed: u32, fragments: &[u8], index: u8) -> Column
     requires size_in_bounds { index * layout.record_length layout.written_version size + layout.record_length layout.written_version size ≤ length fragments.now }
     ensures { result ≡ parts.print_among size seed fragments.now index }
 {
-    let step = record::record_length(record::WRITTEN_VERSION, size);
-    let start = (index as usize) * step + record::body_place(record::WRITTEN_VERSION);
-    let end = start + size as usize;
-    fingerprint::fingerprint(seed, &fragments[start..end]).unwrap_or(Column::ZERO)
+    fingerprint::fingerprint(seed, cut::body_among(size, fragments, index)).unwrap_or(Column::ZERO)
 }
 
 // A line for each of n records.

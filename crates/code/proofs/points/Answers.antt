@@ -6,4 +6,4 @@ use Rattle.code.proofs.points.Goals as goal
 
 pub returns : goal.returns
 unfolding points
-returns c = listed_all _ _ _ _ (omega arith) c.loop-point.invariant.1
+returns c = listed_all _ _ _ _ (omega arith) c.loop-point.invariant

@@ -11,14 +11,14 @@ use Rattle.code.proofs.weights.coefficients.Goals as goal
 
 pub returns : goal.returns
 returns c =
-    let w = c.wide-count.result in
-    let fits : w ≤ 255 = omega (arith, c.wide-count.ensures) in
+    let w = c.from-count.result in
+    let fits : w ≤ 255 = omega (arith, c.from-count.ensures) in
     let all = c.points-all.result in
     let part = c.each_spread.new.out in
     c.each_share.ensures
     ∙ ap (λ (l : List ℕ). overlaid l c.args.out.now)
     (shares_coefficients _ (omega arith) _ (omega arith) (take w all) _
-    (points_first _ 255 w all (omega arith) c.wide-count.ensures c.points-all.ensures)
+    (points_first _ 255 w all (omega arith) c.from-count.ensures c.points-all.ensures)
     (back w (replicate 255 0) fits part c.each_spread.auto.out
     ∙ spread_all (take w all) (take w (replicate 255 0)) part
-    (sym (lent w (replicate 255 0) fits) ∙ sym (points_count _ 255 w all (omega arith) c.wide-count.ensures c.points-all.ensures)) c.each_spread.ensures))
+    (sym (lent w (replicate 255 0) fits) ∙ sym (points_count _ 255 w all (omega arith) c.from-count.ensures c.points-all.ensures)) c.each_spread.ensures))

@@ -13,13 +13,11 @@ use Rattle.code.proofs.weights.each_spread.Goals as goal
 pub loop-k-preserved : goal.loop-k-preserved
 loop-k-preserved c =
     let points = c.args.points.now in
-    let k< : c.loop-k.k < length points = omega (arith, c.shorter-end.ensures) in (
-      omega arith,
-      one_over (map (spread bytes points) points) _ _ _ _ (omega (arith, length-map points (spread bytes points))) (omega (arith, c.shorter-end.ensures))
-          (c.spread.ensures ∙ sym (map_at (spread bytes points) points _ k<)) c.loop-k.invariant.1,
-    )
+    let k< : c.loop-k.k < length points = omega (arith, c.min-k-end.ensures) in
+    one_over (map (spread bytes points) points) _ _ _ _ (omega (arith, length-map points (spread bytes points))) (omega (arith, c.min-k-end.ensures))
+    (c.spread.ensures ∙ sym (map_at (spread bytes points) points _ k<)) c.loop-k.invariant
 
 pub returns : goal.returns
 returns c =
     let points = c.args.points.now in
-    all_over (map (spread bytes points) points) _ _ _ (omega (arith, c.shorter-end.ensures, length-map points (spread bytes points))) c.loop-k.invariant.1
+    all_over (map (spread bytes points) points) _ _ _ (omega (arith, c.min-k-end.ensures, c.loop-k.auto.k-end, length-map points (spread bytes points))) c.loop-k.invariant

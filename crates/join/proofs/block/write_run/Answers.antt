@@ -10,11 +10,11 @@ use Rattle.join.proofs.block.write_run.Goals as goal
 
 pub returns : goal.returns
 returns c =
-    let n = length c.args.indexes.now in
+    let n = length c.args.sources.indexes.now in
     let part = c.each_share.new.out in
-    mixed_run c.args.indexes.now c.args.places.now c.args.records.now _ c.args.stride c.args.t c.args.at _ _
+    mixed_run c.args.sources.indexes.now c.args.sources.places.now c.args.sources.records.now _ c.args.sources.stride c.args.t c.args.at _ _
     (back n (replicate 255 0) (omega arith) part c.each_share.auto.out
-    ∙ weighed c.args.indexes.now c.args.spreads.now (take n (replicate 255 0)) part c.args.t
-    (all_small c.args.indexes.now (λ k. (c.type_inv.indexes k).fits)) c.requires.indexes_len_bound.1 (search rules) c.requires.spreads_value
+    ∙ weighed c.args.sources.indexes.now c.args.sources.spreads.now (take n (replicate 255 0)) part c.args.t
+    c.args.sources.fit.small c.args.sources.fit.different (search rules) c.args.sources.fit.spread_out
     (sym (lent n (replicate 255 0) (omega arith))) c.each_share.ensures)
     c.regain.ensures

@@ -6,11 +6,11 @@ use Rattle.join.proofs.refusal.lengths_fit.Goals as goal
 
 pub nonzero_rem-result : goal.nonzero_rem-result
 nonzero_rem-result c =
-    omega (arith, c.stride-stride.ensures, some_stride c.args.check.now)
+    omega (arith, some_stride c.args.check.now _ c.stride-stride.ensures)
 
 pub nonzero_div-result : goal.nonzero_div-result
 nonzero_div-result c =
-    omega (arith, c.stride-stride.ensures, some_stride c.args.check.now)
+    omega (arith, some_stride c.args.check.now _ c.stride-stride.ensures)
 
 pub returns : goal.returns
 returns c =

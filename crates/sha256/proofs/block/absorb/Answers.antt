@@ -1,5 +1,5 @@
 -- `sha256::block::absorb` meets its contract: block after block is taken on. Assumes nothing.
-use Rattle.std.proofs.Common.{◌≡◌, ℕ, ◌/◌, length, ◌∙◌, arith}
+use Rattle.std.proofs.Common.{◌≡◌, ◌/◌, length, ◌∙◌, arith}
 use Rattle.std.proofs.lemmas.Grind.{common_steps}
 use Rattle.std.specs.List.{fold}
 use Rattle.std.specs.Simd.{first_chunks}

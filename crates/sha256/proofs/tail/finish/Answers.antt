@@ -1,5 +1,5 @@
 -- `sha256::tail::finish` meets its contract: what is left past the whole blocks, with its padding, fills the front of the buffer. Assumes nothing.
-use Rattle.std.proofs.Common.{◌≡◌, ℕ, ◌+◌, ◌*◌, List, ◌++◌, length, take, drop, replicate, ap, ◌∙◌, ap₂, arith, length-take-le, take_at}
+use Rattle.std.proofs.Common.{◌≡◌, ℕ, ◌+◌, ◌*◌, List, ◌++◌, length, drop, replicate, ap, ◌∙◌, ap₂, length-take-le, take_at}
 use Rattle.sha256.proofs.Pieces.{finishing}
 use Rattle.sha256.specs.Fips180.{padding, Hᴺ, digest}
 use Rattle.sha256.proofs.tail.finish.Goals as goal
