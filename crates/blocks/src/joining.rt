@@ -79,7 +79,7 @@ fn buffers(rt: &HostRuntime) -> io::Result<()> {
         ("a short output", sound().with_output_of(5)),
         ("a long output", sound().with_output_of(7)),
         ("a byte too few", sound().with_part(1, 84)),
-        ("five records", sound().with_part(0, 105)),
+        ("five records", sound().with_fifth()),
     ] {
         join(rt, what, setting)?;
     }

@@ -14,8 +14,9 @@ pub(crate) struct Setting {
 impl Setting {
     // All four records of block 01 to 06, number 7, any m of which are enough.
     pub(crate) fn cut(m: u32, check_length: usize) -> Setting {
-        let mut check = zeros(check_length);
-        let mut records = zeros(84);
+        let mut check = ArrayVec::from([0; 162]);
+        check.truncate(check_length);
+        let mut records = [0; 84];
         // Refused with another check_length: the records are then zero bytes.
         let _ = cut::cut(
             m,
@@ -23,13 +24,13 @@ impl Setting {
             256,
             7,
             &[1, 2, 3, 4, 5, 6],
-            records.as_mut_slice(),
+            &mut records,
             check.as_mut_slice(),
         );
         Setting {
             wanted: 7,
             check,
-            records,
+            records: room(&records),
             output: 6,
         }
     }
@@ -40,15 +41,21 @@ impl Setting {
     }
 
     pub(crate) fn with_check_of(mut self, length: usize) -> Setting {
-        resize(&mut self.check, length);
+        self.check.truncate(length);
         self
     }
 
+    // Bytes `from` to `to` of the records.
     pub(crate) fn with_part(mut self, from: usize, to: usize) -> Setting {
-        resize(&mut self.records, to);
-        let part = self.records.as_slice().get(from..).unwrap_or_default();
-        let part = ArrayVec::try_from(part).unwrap_or_default();
+        self.records.truncate(to);
+        let part = room(self.records.as_slice().get(from..).unwrap_or_default());
         self.records = part;
+        self
+    }
+
+    // A fifth record, of zero bytes.
+    pub(crate) fn with_fifth(mut self) -> Setting {
+        let _ = self.records.try_extend_from_slice(&[0; 21]);
         self
     }
 
@@ -68,20 +75,11 @@ impl Setting {
     }
 }
 
-fn zeros<const N: usize>(length: usize) -> ArrayVec<u8, N> {
-    let mut bytes = ArrayVec::new();
-    resize(&mut bytes, length);
-    bytes
+fn room(records: &[u8]) -> ArrayVec<u8, 105> {
+    ArrayVec::try_from(records).unwrap_or_default()
 }
 
-// Cut short, or filled out with zero bytes where there is room.
-fn resize<const N: usize>(bytes: &mut ArrayVec<u8, N>, length: usize) {
-    bytes.truncate(length);
-    for _ in bytes.len()..length {
-        let _ = bytes.try_push(0);
-    }
-}
-
+// Other bytes from a place on, where they fit. The like in `verdicts` is of another program: a library of these lines is no plainer.
 fn put(bytes: &mut [u8], at: usize, others: &[u8]) {
     if let Some(rest) = bytes.get_mut(at..) {
         record::put(rest, others);
