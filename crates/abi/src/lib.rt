@@ -131,10 +131,17 @@ pub fn rwk_join(
     ensures read_after { read.new ≡ (joining.join_answer wanted check.now records.now out.old).read }
     ensures indexes_after { indexes.new ≡ (joining.join_answer wanted check.now records.now out.old).indexes }
 {
-    let joined = join::join(wanted, check, records, out);
-    *read = joined.read;
-    *indexes = joined.indexes;
-    joined.number
+    match join::join(wanted, check, records, out) {
+        Ok(counts) => {
+            *read = counts.read;
+            *indexes = counts.indexes;
+            0
+        }
+        Err(refusal) => {
+            (*read, *indexes) = refusal.values();
+            refusal.number()
+        }
+    }
 }
 
 pub fn rwk_sha256(body: &[u8], digest: &mut [u8]) -> u32

@@ -129,15 +129,19 @@ fn order(rt: &HostRuntime) -> io::Result<()> {
 fn join(rt: &HostRuntime, what: &str, setting: Setting) -> io::Result<()> {
     let mut out = [0xee; 7];
     if let Some(lent) = out.get_mut(..setting.output) {
-        let got = join::join(
+        let answer = join::join(
             setting.wanted,
             setting.check.as_slice(),
             setting.records.as_slice(),
             lent,
         );
+        let (number, (read, indexes)) = match answer {
+            Ok(counts) => (0, (counts.read, counts.indexes)),
+            Err(refusal) => (refusal.number(), refusal.values()),
+        };
         println!(rt;
-            "join from {what}: {} {} {} {:02x} {:02x}",
-            got.number, got.read, got.indexes, out[0], out[4]
+            "join from {what}: {number} {read} {indexes} {:02x} {:02x}",
+            out[0], out[4]
         )?;
     }
     Ok(())

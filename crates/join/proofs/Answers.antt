@@ -8,6 +8,7 @@ use lib.Dec.{eqb, leb}
 use lib.ListN.{length, take, drop, length-map}
 use lib.Seq.{take_at}
 use borrow.Author.Tests.{eq-eqb, ne_eqb, leb-true, eqb-true}
+use Rattle.std.specs.Prelude.{Err}
 use Rattle.limits.specs.Limits.{most_fragments, longest_block}
 use Rattle.algebra.specs.Several.{listed, All, Distinct}
 use Rattle.algebra.proofs.Several.{all_both, all_map}
@@ -15,6 +16,9 @@ use Rattle.field.specs.Byte.{bytes}
 use Rattle.code.specs.Weights.{spread}
 use Rattle.code.specs.Cutting.{body_length}
 use Rattle.code.proofs.Plain.{Small}
+use Rattle.refusal.specs.declared.Refusal.{Refusal}
+use Rattle.refusal.specs.Number.{number_of, values_of}
+use Rattle.refusal.proofs.Outcome.{not_none, alone}
 use Rattle.record.specs.declared.CheckHead.{CheckHead}
 use Rattle.record.specs.Layout.{hashes_place}
 use Rattle.record.specs.Heads.{check_head_of, check_marked, check_shaped, counts_fit}
@@ -28,8 +32,7 @@ use Rattle.gather.specs.declared.Used.{Used}
 use Rattle.gather.specs.Gather.{stride, count_of, read_count, gathered}
 use Rattle.gather.proofs.Uses.{indexes, Sound, sound}
 use Rattle.gather.proofs.Places.{place_within}
-use Rattle.join.specs.declared.Joined.{Joined}
-use Rattle.join.specs.Join.{all_used, padded, all_zero, lengths_fit, join_number, counted, join_answer, join_output}
+use Rattle.join.specs.Join.{Joined, numbers_of, all_used, padded, all_zero, lengths_fit, join_number, counted, join_answer, join_output}
 use Rattle.join.specs.Fit.{Fit}
 use Rattle.join.specs.Parts.{block_byte}
 use Rattle.join.proofs.Tested.{tests}
@@ -86,10 +89,11 @@ module _ (wanted : ℕ) (check records out : List ℕ) where
   abbrev Goal : Joined → List ℕ → Type 0
   Goal answer left = (answer ≡ join_answer wanted check records out) × (left ≡ join_output wanted check records out)
 
-  bare : (r n : ℕ) → r ≡ n → join_number wanted check records out ≡ n → counted n ≡ false → eqb n 0 ≡ false → Goal (record { number = r; read = 0; indexes = 0 }) out
+  bare : (r : Refusal) (n : ℕ) → number_of r ≡ n → n < 9 → join_number wanted check records out ≡ n → counted n ≡ false → eqb n 0 ≡ false
+      → Goal (numbers_of (Err r)) out
   unfolding join_answer join_output
-  bare r n er e uncounted nonzero = (
-    ap (λ (k : ℕ). record { number = k; read = 0; indexes = 0 }) er
+  bare r n er small e uncounted nonzero = (
+    (λ i. record { number = er i; read = (nothing i).0; indexes = (nothing i).1 })
         ∙ sym (ap (λ (k : ℕ). cond (counted k) (record { number = k; read = read_count c.m us (count_of check records); indexes = length us })
         (record { number = k; read = 0; indexes = 0 })) e
         ∙ ap (λ (b : Bool). cond b (record { number = n; read = read_count c.m us (count_of check records); indexes = length us })
@@ -97,21 +101,24 @@ module _ (wanted : ℕ) (check records out : List ℕ) where
     sym (ap (λ (k : ℕ). cond (eqb k 0) (take c.length (padded wanted check records)) out) e
         ∙ ap (λ (b : Bool). cond b (take c.length (padded wanted check records)) out) nonzero),
   )
+    where
+      nothing : values_of r ≡ (0, 0)
+      nothing = alone r (omega (arith, er, small))
 
   -- a refusal before the records are read
-  pub refused : (r : ℕ) → r ≡ tests wanted check records out → (r ≡ 0 → ⊥) → Goal (record { number = r; read = 0; indexes = 0 }) out
+  pub refused : (r : Refusal) → number_of r ≡ tests wanted check records out → Goal (numbers_of (Err r)) out
   unfolding join_number counted
-  refused r er ne =
+  refused r er =
       go (check_marked check) refl (check_shaped check) refl (eqb c.number wanted) refl (lengths_fit check records out) refl er
     where
       go : (x : Bool) → check_marked check ≡ x → (y : Bool) → check_shaped check ≡ y → (z : Bool) → eqb c.number wanted ≡ z
-          → (w : Bool) → lengths_fit check records out ≡ w → r ≡ cond x (cond y (cond z (cond w 0 4) 7) 6) 5
-          → Goal (record { number = r; read = 0; indexes = 0 }) out
-      go false p y q z s w t e = bare r 5 e (simp p) refl refl
-      go true p false q z s w t e = bare r 6 e (simp (p, q)) refl refl
-      go true p true q false s w t e = bare r 7 e (simp (p, q, s)) refl refl
-      go true p true q true s false t e = bare r 4 e (simp (p, q, s, t)) refl refl
-      go true p true q true s true t e = absurd (ne e)
+          → (w : Bool) → lengths_fit check records out ≡ w → number_of r ≡ cond x (cond y (cond z (cond w 0 4) 7) 6) 5
+          → Goal (numbers_of (Err r)) out
+      go false p y q z s w t e = bare r 5 e (omega arith) (simp p) refl refl
+      go true p false q z s w t e = bare r 6 e (omega arith) (simp (p, q)) refl refl
+      go true p true q false s w t e = bare r 7 e (omega arith) (simp (p, q, s)) refl refl
+      go true p true q true s false t e = bare r 4 e (omega arith) (simp (p, q, s, t)) refl refl
+      go true p true q true s true t e = absurd (not_none r e)
 
   -- what holds where none is given
   pub record Passed : Type 0 where
@@ -120,8 +127,8 @@ module _ (wanted : ℕ) (check records out : List ℕ) where
     pub number : eqb c.number wanted ≡ true
     pub fits : lengths_fit check records out ≡ true
 
-  pub passed : (r : ℕ) → r ≡ tests wanted check records out → r ≡ 0 → Passed
-  passed r er e0 = go (check_marked check) refl (check_shaped check) refl (eqb c.number wanted) refl (lengths_fit check records out) refl (sym e0 ∙ er)
+  pub passed : 0 ≡ tests wanted check records out → Passed
+  passed e0 = go (check_marked check) refl (check_shaped check) refl (eqb c.number wanted) refl (lengths_fit check records out) refl e0
     where
       go : (x : Bool) → check_marked check ≡ x → (y : Bool) → check_shaped check ≡ y → (z : Bool) → eqb c.number wanted ≡ z
           → (w : Bool) → lengths_fit check records out ≡ w → ◌≡◌ {A = ℕ} 0 (cond x (cond y (cond z (cond w 0 4) 7) 6) 5) → Passed

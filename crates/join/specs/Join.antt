@@ -1,12 +1,14 @@
 -- Joining a block from records: the answer with its two counts, and what the output holds.
-use Rattle.std.specs.Prelude.{Bool, true, false, ◌&&◌, ◌==◌, cond, List, [], ◌∷◌, map, ℕ, ◌%◌, eqb, leb, length, take, drop}
+use Rattle.std.specs.Prelude.{Bool, true, false, ◌&&◌, ◌==◌, cond, List, [], ◌∷◌, map, ℕ, ◌%◌, eqb, leb, length, take, drop, Result, Ok, Err}
 use Rattle.std.specs.List.{list_all}
 use Rattle.code.specs.Joining.{joined}
 use Rattle.record.specs.Heads.{check_head_of, check_marked, check_shaped}
 use Rattle.inspect.specs.Check.{size_of, body_of}
 use Rattle.gather.specs.declared.Used.{Used}
 use Rattle.gather.specs.Gather.{stride, record_at, used, count_of, read_count}
-use Rattle.join.specs.declared.Joined.{Joined}
+use Rattle.refusal.specs.declared.Counts.{Counts}
+use Rattle.refusal.specs.declared.Refusal.{Refusal}
+use Rattle.refusal.specs.Number.{number_of, values_of}
 
 -- the body, among the used records, with index i
 unfoldable pub body_with : List ℕ → List ℕ → List Used → ℕ → List ℕ
@@ -48,6 +50,16 @@ join_number wanted check records out =
 -- 0. Any other refusal has zero counts."
 unfoldable pub counted : ℕ → Bool
 counted number = cond (eqb number 0) true (cond (eqb number 13) true (eqb number 14))
+
+-- what a join answers in numbers: that of the table, how many records were read, and how many different indexes were accepted
+pub record Joined : Type 0 where
+  pub number : ℕ
+  pub read : ℕ
+  pub indexes : ℕ
+
+abbrev pub numbers_of : Result Counts Refusal → Joined
+numbers_of (Ok counts) = record { number = 0; read = counts.read; indexes = counts.indexes }
+numbers_of (Err refusal) = record { number = number_of refusal; read = (values_of refusal).0; indexes = (values_of refusal).1 }
 
 unfoldable pub join_answer : ℕ → List ℕ → List ℕ → List ℕ → Joined
 join_answer wanted check records out =

@@ -3,46 +3,32 @@
 #![tactic(auto)]
 
 mod block;
-mod refusal;
 mod regain;
 mod sources;
+mod tests;
 
-ghost use Rattle.std.specs.Prelude.{◌≡◌};
+ghost use Rattle.std.specs.Prelude.{◌≡◌, Result};
+ghost use Rattle.refusal.specs.declared.Counts.{Counts};
+ghost use Rattle.refusal.specs.declared.Refusal.{Refusal};
 ghost use Rattle.join.specs.Join as joining;
 
+use refusal::{Counts, Refusal};
 use sources::Sources;
 
-// What a join answers: the number, how many records were read, and how many different indexes were accepted.
-#[derive(Clone, Copy)]
-pub struct Joined {
-    pub number: u32,
-    pub read: u64,
-    pub indexes: u64,
-}
-
-pub fn join(wanted: u64, check: &[u8], records: &[u8], out: &mut [u8]) -> Joined
-    ensures value { result ≡ joining.join_answer wanted check.now records.now out.old }
+// Refused by 5, 6, 7, 4, 13 or 14, the first that applies; with 13, 14 and where it is done, how many records were read, and how many
+// different indexes were accepted.
+pub fn join(wanted: u64, check: &[u8], records: &[u8], out: &mut [u8]) -> Result<Counts, Refusal>
+    ensures value { joining.numbers_of result ≡ joining.join_answer wanted check.now records.now out.old }
     ensures out_after { out.new ≡ joining.join_output wanted check.now records.now out.old }
 {
-    let refused = refusal::refusal(wanted, check, records, out);
-    if refused != 0 {
-        return Joined {
-            number: refused,
-            read: 0,
-            indexes: 0,
-        };
-    }
+    tests::test(wanted, check, records, out)?;
     let held = gather::gather(wanted, check, records);
     let used = held.used.as_slice();
     let count = used.len();
-    let read = held.read as u64;
+    let counts = Counts { read: held.read as u64, indexes: count as u64 };
     let head = record::read_check(check);
     if count != head.m as usize {
-        return Joined {
-            number: 13,
-            read,
-            indexes: count as u64,
-        };
+        return Err(Refusal::TooFew(counts));
     }
     let mut indexes = [0u8; 255];
     let mut places = [0usize; 255];
@@ -58,9 +44,14 @@ pub fn join(wanted: u64, check: &[u8], records: &[u8], out: &mut [u8]) -> Joined
     };
     let size = code::body_length(head.length, head.m);
     let rebuilt = block::rebuild(out, sources, size);
-    Joined {
-        number: if rebuilt { 0 } else { 14 },
-        read,
-        indexes: count as u64,
+    if !rebuilt {
+        return Err(Refusal::Fill(counts));
     }
+    Ok(counts)
 }
+
+// The promise is in numbers, and these fix the answer.
+#[tactic(auto, using(crate::proofs::Outcome::one_answer))]
+pub fn one_answer()
+    ensures { (a b : Result Counts Refusal) → joining.numbers_of a ≡ joining.numbers_of b → a ≡ b }
+{}

@@ -6,8 +6,7 @@ use Rattle.code.specs.Cutting.{body_length}
 use Rattle.fingerprint.specs.Fingerprint.{fingerprint_at}
 use Rattle.record.specs.Layout.{number_at, written_version, check_length, record_length}
 use Rattle.cut.specs.Cut.{body_of, fragments, check, cut_number}
-use Rattle.join.specs.declared.Joined.{Joined}
-use Rattle.join.specs.Join.{join_answer}
+use Rattle.join.specs.Join.{Joined, join_answer}
 use Rattle.tell.specs.Lines.{refusal_line, check_line, fragment_line, join_line}
 
 -- the number of a cut whose two buffers are as long as it asks

@@ -4,7 +4,9 @@
 
 mod text;
 
-use arrayvec::ArrayVec;
+ghost use Rattle.std.specs.Prelude.{◌≤◌, length};
+
+use std::fs::File;
 use std::io::Read;
 use std::{fs, io};
 use text::{after, number, unhex};
@@ -24,17 +26,31 @@ fn main(rt: HostRuntime) -> io::Result<()> {
 }
 
 fn run(rt: &HostRuntime, name: &str, path: &str) -> io::Result<()> {
-    let opened = match fs::open(rt, path) {
+    let mut opened = match fs::open(rt, path) {
         Ok(opened) => opened,
         Err(error) => {
             return eprintln!(rt; "{path}: {error}");
         }
     };
-    let mut file = ArrayVec::<u8, 500000>::new();
-    // A read that fails ends the file.
-    let _ = io::copy(&mut opened.take(500000), &mut file);
-    let tally = read_cases(file.as_slice());
+    let mut file = [0; 500000];
+    let count = read_full(&mut opened, &mut file);
+    let tally = read_cases(&file[..count]);
     println!(rt; "{name} {} of {}", tally.agreed, tally.cases)
+}
+
+// Reads until `out` is full, the file ends or a read fails, and answers how many bytes were read. Std's reads of more than one piece
+// would not do: they read on after an interrupted read. Its like in `ball` is of another program: a library of these lines is no plainer.
+fn read_full(file: &mut File, out: &mut [u8]) -> usize
+    ensures { result ≤ length out.new }
+{
+    let mut done = 0;
+    while done < out.len() {
+        match file.read(&mut out[done..]) {
+            Ok(0) | Err(_) => break,
+            Ok(count) => done += count,
+        }
+    }
+    done
 }
 
 fn read_cases(file: &[u8]) -> Tally {
