@@ -3,7 +3,6 @@ ghost use Rattle.std.specs.Prelude.{◌≡◌, true, ◌<◌};
 ghost use Rattle.record.specs.Heads as heads;
 ghost use Rattle.inspect.specs.Check as inspection;
 
-use fingerprint::SeedTable;
 use record::CheckHead;
 
 // 11 is given unless this holds.
@@ -22,7 +21,7 @@ pub(crate) fn print_agrees(check: &[u8], c: CheckHead, index: u8, body: &[u8]) -
     requires { (c ≡ heads.check_head_of check.now) × (heads.check_shaped check.now ≡ true) }
     ensures { result ≡ inspection.print_agrees check.now index body.now }
 {
-    let found = SeedTable::new(c.seed).fingerprint(body);
+    let found = fingerprint::fingerprint_at(c.seed, body);
     let at = record::prints_place(c.version, c.n);
     let called = fingerprint::called_for(c.m, index, &check[at..]);
     found == called
