@@ -145,7 +145,12 @@ fn told(
 ) -> io::Result<()> {
     let mut out = [0xeeu8; 7];
     if length <= out.len() {
-        let (number, read, indexes) = match join::join(wanted, check, records, &mut out[0..length]) {
+        let (number, read, indexes) = match join::join(
+            wanted,
+            check,
+            records,
+            &mut out[0..length],
+        ) {
             Ok(counts) => (0, counts.read, counts.indexes),
             Err(refusal) => {
                 let (read, indexes) = refusal.values();

@@ -53,7 +53,12 @@ pub(crate) fn add_fragment(text: &mut [u8], at: usize, index: u8, size: u32, pri
     )
 }
 
-pub(crate) fn add_join(text: &mut [u8], at: usize, joined: Result<Counts, Refusal>, length: usize) -> usize
+pub(crate) fn add_join(
+    text: &mut [u8],
+    at: usize,
+    joined: Result<Counts, Refusal>,
+    length: usize,
+) -> usize
     requires { at + 67 ≤ lib.ListN.length text.old }
     ensures value { result ≡ at + lib.ListN.length (lines.join_line (joining.numbers_of joined).number (joining.numbers_of joined).read length) }
     ensures text_after { text.new ≡ placed text.old at (lines.join_line (joining.numbers_of joined).number (joining.numbers_of joined).read length) }
