@@ -14,18 +14,18 @@ fn main(rt: HostRuntime) {
     let _ = rt.stdout().write_all(&text[..length]);
 }
 
-// Reads until `input` is full, standard input ends or a read fails, and answers how many bytes were read.
+// Reads until `input` is full, standard input ends or a read fails, and answers how many bytes were read. Std's reads of more than
+// one piece would not do: they read on after an interrupted read, and tell no count without a heap.
 fn read_full(rt: &HostRuntime, input: &mut [u8]) -> usize
     ensures { result ≤ length input.new }
 {
     let mut stdin = rt.stdin();
     let mut done = 0;
     while done < input.len() {
-        let n = stdin.read(&mut input[done..]).unwrap_or(0);
-        if n == 0 {
-            break;
+        match stdin.read(&mut input[done..]) {
+            Ok(0) | Err(_) => break,
+            Ok(n) => done += n,
         }
-        done += n;
     }
     done
 }

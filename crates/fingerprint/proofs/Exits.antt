@@ -2,6 +2,7 @@
 use mathlib.Core.Path.{◌≡◌, sym, ap, ◌∙◌}
 use mathlib.Core.Logic.{◌≢◌}
 use mathlib.Core.List.{List}
+use Rattle.std.specs.Prelude.{Ok}
 use Prim.Native.Nat.{ℕ, ◌%◌, ◌<◌, ◌≤◌}
 use borrow.Author.Tests.{lt-ltb, le-ltb, eq-eqb, ne_eqb}
 use lib.ListN.{length}
@@ -11,7 +12,7 @@ use Rattle.column.specs.Column.{times, from_seed}
 use Rattle.algebra.specs.Several.{All}
 use Rattle.fingerprint.specs.Fingerprint.{columns_of, fingerprint_at}
 use Rattle.fingerprint.specs.Horner.{table_of, evaluated}
-use Rattle.fingerprint.specs.Answer.{Fingerprinted, refused, fingerprinted}
+use Rattle.fingerprint.specs.Answer.{refused, numbers_of, fingerprinted}
 use Rattle.fingerprint.proofs.Packing.{Bytes}
 use Rattle.fingerprint.proofs.Lookups.{by_table}
 
@@ -30,12 +31,9 @@ module _ (seed : ℕ) (body : List ℕ) where
       unfolding fingerprinted
       no_columns h = sym (simp (le-ltb _ _ fits, le-ltb _ _ known, ne_eqb _ _ h))
 
-      -- by the table of the seed column's square
-      pub done : (y z : Column) (t : List ℕ) (u : Column) → Bytes y → All (λ n. n < 256) body → length body % 3 ≡ 0
-          → y ≡ from_seed seed → z ≡ times y y → t ≡ table_of z → u ≡ evaluated t y (columns_of body)
-          → ◌≡◌ {A = Fingerprinted} (record { number = 0; column = u }) (fingerprinted seed body)
+      pub done : (y u : Column) → length body % 3 ≡ 0 → y ≡ from_seed seed → u ≡ fingerprint_at y body
+          → numbers_of (Ok u) ≡ fingerprinted seed body
       unfolding fingerprinted
-      done y z t u hy small h ey ez et eu =
-          ap (λ (w : Column). record { number = 0; column = w })
-          (by_table y z t u body hy small ez et eu ∙ ap (λ (w : Column). fingerprint_at w body) ey)
+      done y u h ey eu =
+          ap (λ (w : Column). numbers_of (Ok w)) (eu ∙ ap (λ (w : Column). fingerprint_at w body) ey)
           ∙ sym (simp (le-ltb _ _ fits, le-ltb _ _ known, eq-eqb _ _ h))

@@ -1,7 +1,10 @@
 -- A body read as columns: column s is bytes 3s, 3s + 1 and 3s + 2, whatever the body's length, and zero past its end.
 use mathlib.Core.Path.{◌≡◌, refl, sym, ap, ◌∙◌}
 use mathlib.Core.List.{List, [], ◌∷◌}
-use Prim.Native.Nat.{ℕ, suc, ◌+◌, ◌*◌, ◌/◌}
+use Prim.Native.Nat.{ℕ, zero, suc, ◌+◌, ◌*◌, ◌/◌, ◌<◌, ◌≤◌}
+use native.Mathlib.Nat.{not-suc-le-zero}
+use Rattle.std.specs.Simd.{first_chunks}
+use Rattle.column.specs.Column.{of_bytes}
 use native.Mathlib.Omega.{arith}
 use lib.ListN.{length, get_or}
 use Rattle.algebra.specs.Several.{listed}
@@ -38,3 +41,13 @@ columns_listed (a ∷ b ∷ c ∷ rest) =
     ap (λ (l : List Column). record { a = a; b = b; c = c } ∷ l)
     (columns_listed rest ∙ listed_same (columns_in (length rest)) (column_at rest) (λ s. column_at (a ∷ b ∷ c ∷ rest) (suc s)) (λ s h. sym (past a b c rest s)))
     ∙ ap (λ (n : ℕ). listed n (column_at (a ∷ b ∷ c ∷ rest))) (sym (columns_more (length rest)))
+
+-- column s where a body is read in chunks of three bytes
+pub chunk : (body : List ℕ) (n s : ℕ) → s < n → 3 * n ≤ length body → of_bytes (get_or (first_chunks 3 n body) s []) ≡ column_at body s
+unfolding column_at
+chunk body zero s h l = absurd (not-suc-le-zero h)
+chunk [] (suc n) s h l = absurd (omega arith)
+chunk (a ∷ []) (suc n) s h l = absurd (omega arith)
+chunk (a ∷ b ∷ []) (suc n) s h l = absurd (omega arith)
+chunk (a ∷ b ∷ c ∷ rest) (suc n) zero h l = refl
+chunk (a ∷ b ∷ c ∷ rest) (suc n) (suc s) h l = chunk rest n s (omega arith) (omega arith) ∙ sym (past a b c rest s)

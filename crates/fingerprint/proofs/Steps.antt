@@ -1,7 +1,7 @@
 -- What the loops over columns rest on: a list of bytes read as columns from the last to the first.
 use mathlib.Core.Path.{◌≡◌, refl, sym, ap, ap₂, ◌∙◌}
 use mathlib.Core.List.{List, [], ◌∷◌}
-use Prim.Native.Nat.{ℕ, ◌+◌, ◌-◌, ◌<◌, ◌≤◌}
+use Prim.Native.Nat.{ℕ, ◌+◌, ◌*◌, ◌/◌, ◌-◌, ◌<◌, ◌≤◌}
 use native.Mathlib.Nat.{not-suc-le-zero, add-zero}
 use native.Mathlib.Decide.{dec_lt}
 use native.Mathlib.Omega.{arith}
@@ -88,14 +88,24 @@ module _ (t body : List ℕ) where
     pub even_is : unpacked even ≡ (halves_from k).even
     pub odd_is : unpacked odd ≡ (halves_from k).odd
 
-  -- a turn of the loop
-  pub turn : ((k : ℕ) → get_or body k 0 < 256) → (k column looked even odd : ℕ) → 3 ≤ k → k ≤ length body → column ≡ packed (column_at body (k - 3))
-      → unpacked looked ≡ looked_up t (unpacked odd) → Passed k even odd → Passed (k - 3) (bit_xor column looked) even
-  turn small k column looked even odd some within ec el P =
-      let e : k ≡ k - 3 + 3 = omega arith in
+  -- before the loop: the value of what is left past the whole columns
+  pub started : (n even : ℕ) (rest : List ℕ) → n ≡ length body / 3 → rest ≡ drop (length body / 3 * 3) body
+      → unpacked even ≡ (halves t (columns_of rest)).even → Passed (3 * n) even 0
+  unfolding halves_from
+  started n even rest en er e =
+      let at : length body / 3 * 3 ≡ 3 * n = omega arith in
       record {
-        even_is = even_next small (k - 3) column looked odd (omega arith) ec el (P.odd_is ∙ ap (λ (n : ℕ). (halves_from n).odd) e);
-        odd_is = odd_next (k - 3) even (omega arith) (P.even_is ∙ ap (λ (n : ℕ). (halves_from n).even) e);
+        even_is = e ∙ ap (λ (l : List ℕ). (halves t (columns_of l)).even) (er ∙ ap (λ (k : ℕ). drop k body) at);
+        odd_is = odd_last (3 * n) (omega arith);
+      }
+
+  -- a turn of the loop, from byte k on to three bytes before
+  pub turn : ((i : ℕ) → get_or body i 0 < 256) → (k n column looked even odd : ℕ) → n + 3 ≡ k → k ≤ length body → column ≡ packed (column_at body n)
+      → unpacked looked ≡ looked_up t (unpacked odd) → Passed k even odd → Passed n (bit_xor column looked) even
+  turn small k n column looked even odd e within ec el P =
+      record {
+        even_is = even_next small n column looked odd (omega arith) ec el (P.odd_is ∙ ap (λ (i : ℕ). (halves_from i).odd) (sym e));
+        odd_is = odd_next n even (omega arith) (P.even_is ∙ ap (λ (i : ℕ). (halves_from i).even) (sym e));
       }
 
   -- from the first byte on, the whole

@@ -2,6 +2,8 @@
 // for of a body. No public function asks anything of its caller.
 #![tactic(auto)]
 
+pub mod stated;
+
 ghost use Rattle.std.specs.Prelude.{◌≡◌, ◌+◌, ◌≤◌, ◌<◌, length, get_or, drop};
 ghost use Rattle.algebra.specs.Several.{listed};
 ghost use Rattle.field.specs.Byte.{plus};
@@ -28,36 +30,79 @@ pub fn fingerprint(seed: u32, body: &[u8]) -> Result<Column, Refusal>
     if body.len() % 3 != 0 {
         return Err(Refusal::WrongLength);
     }
-    let y = Column::from_seed(seed);
-    let entries = table(y.times(y));
-    Ok(evaluated(&entries, y, body))
+    Ok(fingerprint_at(Column::from_seed(seed), body))
 }
 
-// For each byte k the multiples by k of y, of x y and of x^2 y. The bytes of the two others are sums of y's, and so are their rows.
+// The fingerprint of a body of any length at a seed column.
+pub fn fingerprint_at(seed: Column, body: &[u8]) -> Column
+    ensures { result ≡ print.fingerprint_at seed body.now }
+{
+    let mut room = [0; 768];
+    SeedTable::new(seed, &mut room).fingerprint(body)
+}
+
+// A seed column and the table of its square, for the fingerprints of many bodies at that seed. The table is lent, so that no copy
+// of it is ever made.
+#[derive(Clone, Copy)]
+pub struct SeedTable<'a> {
+    seed: Column,
+    entries: &'a [u32; 768],
+    ghost small: { (seed.a < 256) × (seed.b < 256) × (seed.c < 256) },
+    ghost of_square: { entries.now ≡ horner.table_of (column.times seed seed) },
+}
+
+impl<'a> SeedTable<'a> {
+    // The table is put into `room`.
+    pub fn new(seed: Column, room: &'a mut [u32; 768]) -> SeedTable<'a>
+        ensures { result.seed ≡ seed }
+    {
+        put_table(room, seed * seed);
+        SeedTable {
+            seed,
+            entries: room,
+        }
+    }
+
+    // The fingerprint of a body of any length; a last column that is not whole is filled with zero bytes.
+    pub fn fingerprint(&self, body: &[u8]) -> Column
+        ensures { result ≡ print.fingerprint_at self.now.seed body.now }
+    {
+        evaluated(self.entries, self.seed, body)
+    }
+}
+
+// For each byte k the multiples by k of y, of x y and of x^2 y.
 pub fn table(y: Column) -> [u32; 768]
     ensures { result ≡ horner.table_of y }
+{
+    let mut out = [0; 768];
+    put_table(&mut out, y);
+    out
+}
+
+// The same into a lent table. The bytes of x y and x^2 y are sums of y's, and so are their rows.
+fn put_table(out: &mut [u32; 768], y: Column)
+    ensures { out.new ≡ horner.table_of y }
 {
     let a = field::row(y.a);
     let b = field::row(y.b);
     let c = field::row(y.c);
     let ac = sums(&a, &c);
     let cb = sums(&c, &b);
-    let mut out = [0u32; 768];
-    fill(&mut out[0..256], &a, &b, &c);
-    fill(&mut out[256..512], &c, &ac, &b);
-    fill(&mut out[512..768], &b, &cb, &ac);
-    out
+    let (one, rest) = out.split_at_mut(256);
+    let (two, three) = rest.split_at_mut(256);
+    fill(one, &a, &b, &c);
+    fill(two, &c, &ac, &b);
+    fill(three, &b, &cb, &ac);
 }
 
 // The row of the sum of two bytes, from their rows.
 fn sums(a: &[u8; 256], b: &[u8; 256]) -> [u8; 256]
     ensures { result ≡ listed 256 (λ k. plus (get_or a.now k 0) (get_or b.now k 0)) }
 {
-    let mut out = [0u8; 256];
-    let mut k = 0;
-    while k < 256 {
+    let mut out = [0; 256];
+    for k in 0..256 {
         out[k] = field::plus(a[k], b[k]);
-        k += 1;
     }
     out
 }
@@ -67,14 +112,12 @@ fn fill(out: &mut [u32], a: &[u8; 256], b: &[u8; 256], c: &[u8; 256])
     requires { length out.old ≡ 256 }
     ensures { out.new ≡ listed 256 (λ k. horner.packed (record { a = get_or a.now k 0; b = get_or b.now k 0; c = get_or c.now k 0 })) }
 {
-    let mut k = 0;
-    while k < 256 {
+    for k in 0..256 {
         out[k] = packed(Column {
             a: a[k],
             b: b[k],
             c: c[k],
         });
-        k += 1;
     }
 }
 
@@ -83,58 +126,49 @@ fn fill(out: &mut [u32], a: &[u8; 256], b: &[u8; 256], c: &[u8; 256])
 pub fn evaluated(table: &[u32; 768], y: Column, body: &[u8]) -> Column
     ensures { result ≡ horner.evaluated table.now y (print.columns_of body.now) }
 {
-    let mut k = body.len() - body.len() % 3;
-    let mut even = last(table, body, k);
+    let (columns, rest) = body.as_chunks::<3>();
+    let mut even = last(table, rest);
     let mut odd = 0;
-    while k > 0 {
-        k -= 3;
-        let column = packed(Column {
-            a: body[k],
-            b: body[k + 1],
-            c: body[k + 2],
-        });
-        let next = column ^ looked_up(table, odd);
+    for j in (0..columns.len()).rev() {
+        let next = packed(Column::from(columns[j])) ^ looked_up(table, odd);
         odd = even;
         even = next;
     }
-    unpacked(even).plus(y.times(unpacked(odd)))
+    unpacked(even) + y * unpacked(odd)
 }
 
-// The value of what is left of a body from `at` on, less than a whole column.
-fn last(table: &[u32; 768], body: &[u8], at: usize) -> u32
-    requires { (at ≤ length body.now) × (length body.now < at + 3) }
-    ensures { horner.unpacked result ≡ (horner.halves table.now (print.columns_of (drop at body.now))).even }
+// The value of what is left of a body, less than a whole column.
+fn last(table: &[u32; 768], rest: &[u8]) -> u32
+    requires { length rest.now < 3 }
+    ensures { horner.unpacked result ≡ (horner.halves table.now (print.columns_of rest.now)).even }
 {
-    if at == body.len() {
+    if rest.is_empty() {
         return 0;
     }
-    packed(column_at(body, at)) ^ looked_up(table, 0)
+    packed(column_at(rest, 0)) ^ looked_up(table, 0)
 }
 
 // Times the table's seed column: three lookups.
 fn looked_up(table: &[u32; 768], value: u32) -> u32
     ensures { horner.unpacked result ≡ horner.looked_up table.now (horner.unpacked value) }
 {
-    let a = (value % 256) as usize;
-    let b = (value / 256 % 256) as usize;
-    let c = (value / 65536 % 256) as usize;
-    table[a] ^ table[256 + b] ^ table[512 + c]
+    let [a, b, c, _] = value.to_le_bytes();
+    table[usize::from(a)] ^ table[256 + usize::from(b)] ^ table[512 + usize::from(c)]
 }
 
+#[tactic(auto, unfolding(crate::specs::Horner::packed))]
 fn packed(u: Column) -> u32
     ensures { result ≡ horner.packed u }
 {
-    (u.a as u32) + 256 * (u.b as u32) + 65536 * (u.c as u32)
+    u32::from_le_bytes([u.a, u.b, u.c, 0])
 }
 
+#[tactic(auto, unfolding(crate::specs::Horner::unpacked))]
 fn unpacked(value: u32) -> Column
     ensures { result ≡ horner.unpacked value }
 {
-    Column {
-        a: (value % 256) as u8,
-        b: (value / 256 % 256) as u8,
-        c: (value / 65536 % 256) as u8,
-    }
+    let [a, b, c, _] = value.to_le_bytes();
+    Column { a, b, c }
 }
 
 // The combination of the fingerprints, three bytes each, by body i's own coefficients: below m that is the fingerprint of body i itself.
@@ -145,7 +179,7 @@ pub fn called_for(m: u8, i: u8, prints: &[u8]) -> Column
         return print_at(prints, i);
     }
     let mut room = [0u8; 255];
-    let count = m as usize;
+    let count = usize::from(m);
     code::coefficients(m, i, &mut room[..count]);
     combination(&room[..count], m, prints)
 }
@@ -156,11 +190,8 @@ fn combination(coefficients: &[u8], m: u8, prints: &[u8]) -> Column
     ensures { result ≡ combined column_space coefficients.now (print.columns_of prints.now) }
 {
     let mut sum = Column::ZERO;
-    let mut j = m;
-    while j > 0 {
-        j -= 1;
-        let by = coefficients[j as usize];
-        sum = print_at(prints, j).scaled(by).plus(sum);
+    for j in (0..m).rev() {
+        sum = print_at(prints, j) * coefficients[usize::from(j)] + sum;
     }
     sum
 }
@@ -169,7 +200,7 @@ fn combination(coefficients: &[u8], m: u8, prints: &[u8]) -> Column
 fn print_at(prints: &[u8], j: u8) -> Column
     ensures { result ≡ get_or (print.columns_of prints.now) j column.zero }
 {
-    let at = 3 * (j as usize);
+    let at = 3 * usize::from(j);
     if at < prints.len() {
         return column_at(prints, at);
     }
@@ -191,8 +222,5 @@ fn column_at(s: &[u8], at: usize) -> Column
 fn byte_at(s: &[u8], at: usize) -> u8
     ensures { result ≡ get_or s.now at 0 }
 {
-    if at < s.len() {
-        return s[at];
-    }
-    0
+    s.get(at).copied().unwrap_or(0)
 }

@@ -1,5 +1,5 @@
 -- Which text is told: each refusal, and the lines of a cut that is not refused.
-use mathlib.Core.Path.{◌≡◌, sym, ap, ap₂, ◌∙◌}
+use mathlib.Core.Path.{◌≡◌, refl, sym, ap, ap₂, ◌∙◌}
 use mathlib.Core.Bool.{Bool, ◌&&◌, cond}
 use mathlib.Core.List.{List, ◌++◌}
 use Prim.Native.Nat.{ℕ, ◌+◌, ◌-◌, ◌*◌, ◌^◌, ◌<◌, ◌≤◌}
@@ -21,25 +21,17 @@ use Rattle.record.specs.Records.{check_record}
 use Rattle.record.specs.Heads.{check_head_of, counts_fit}
 use Rattle.record.proofs.Buffer.{rest_lent}
 use Rattle.record.proofs.ReadBack.{check_back}
-use Rattle.cut.specs.Cut.{body_of, fragments, check_of, check, buffers_fit, cut_number, held}
+use Rattle.cut.specs.Cut.{body_of, fragments, check_of, check, buffers_fit, cut_number}
 use Rattle.cut.proofs.Records.{body_back}
 use Rattle.tell.specs.Lines.{refusal_line, check_line, fragment_line, join_line}
-use Rattle.tell.specs.Parts.{placed, print_among, fragment_lines, head_line, answer_line, shown}
+use Rattle.tell.specs.Parts.{print_among, fragment_lines, head_line, answer_line, shown}
 use Rattle.tell.specs.Told.{cut_refusal, joined, lines, told, printed}
-use Rattle.tell.proofs.Shown.{head_is}
 
 -- only the lengths of the two buffers count
-buffers_same : (m n : ℕ) (block a b c d : List ℕ) → length a ≡ length c → length b ≡ length d → buffers_fit m n block a b ≡ buffers_fit m n block c d
-unfolding buffers_fit
-buffers_same m n block a b c d e f =
-    ap₂ (λ (x y : ℕ). eqb x (n * record_length written_version (body_length (length block) m)) && eqb y (check_length written_version m n)) e f
-
 pub refused_is : (m n seed : ℕ) (block a b : List ℕ) → length a ≡ n * record_length written_version (body_length (length block) m)
     → length b ≡ check_length written_version m n → cut_number m n seed block a b ≡ cut_refusal m n seed block
-unfolding cut_refusal cut_number
-refused_is m n seed block a b ea eb =
-    ap (λ (fit : Bool). cond (counts_fit m n) (cond (leb (length block) longest_block) (cond (leb seed largest_seed) (cond fit 0 4) 3) 2) 1)
-    (buffers_same m n block a b _ _ (ea ∙ sym (length-replicate _ 0)) (eb ∙ sym (length-replicate _ 0)))
+unfolding cut_refusal cut_number buffers_fit
+refused_is m n seed block a b ea eb = rw (ea, eb, length-replicate, length-replicate) refl
 
 module _ (m n seed number : ℕ) (block : List ℕ) where
   head_back : number < 2 ^ 64 → length block < 2 ^ 32
@@ -48,7 +40,8 @@ module _ (m n seed number : ℕ) (block : List ℕ) where
   head_back hn hL = sym (check_back written_version number (length block) m n (from_seed seed) _ (lit< tt) hn hL)
 
   head_lines : number < 2 ^ 64 → length block < 2 ^ 32 → head_line (check m n seed number block) ≡ check_line written_version number (length block) m n
-  head_lines hn hL = sym (head_is (check m n seed number block) _ (head_back hn hL))
+  unfolding head_line
+  head_lines hn hL = rw (sym (head_back hn hL)) refl
 
   body_lines : fragment_lines n (body_length (length block) m) seed (fragments m n number block)
       ≡ end_to_end (listed n (λ i. fragment_line i (body_length (length block) m) (fingerprint_at (from_seed seed) (body_of m block i))))
@@ -57,24 +50,18 @@ module _ (m n seed number : ℕ) (block : List ℕ) where
       ap end_to_end
       (listed_same n _ _ (λ i h. ap (λ (b : List ℕ). fragment_line i (body_length (length block) m) (fingerprint_at (from_seed seed) b)) (body_back m n number block i h)))
 
-module _ (m n seed number : ℕ) (block : List ℕ) (refused : ℕ) (e : refused ≡ cut_refusal m n seed block) where
-  pub told_refused : (refused ≡ 0 → ⊥) → refusal_line refused ≡ told m n seed number block
+  pub told_refused : (refused : ℕ) → (refused ≡ 0 → ⊥) → refused ≡ cut_refusal m n seed block → refusal_line refused ≡ told m n seed number block
   unfolding told
-  told_refused ne = ap refusal_line e ∙ sym (simp (ne_eqb (cut_refusal m n seed block) 0 (λ z. ne (e ∙ z))))
-
-  told_lines : refused ≡ 0 → lines m n seed number block ≡ told m n seed number block
-  unfolding told
-  told_lines z = sym (simp (eq-eqb (cut_refusal m n seed block) 0 (sym e ∙ z)))
+  told_refused refused some e = ap refusal_line e ∙ sym (simp (ne_eqb (cut_refusal m n seed block) 0 (λ z. some (e ∙ z))))
 
   -- the lines of what the cut wrote
-  pub told_shown : refused ≡ 0 → number < 2 ^ 64 → length block < 2 ^ 32 → (summary records : List ℕ) → summary ≡ check m n seed number block
-      → records ≡ fragments m n number block → shown m n seed number (length block) summary records ≡ told m n seed number block
-  unfolding shown lines answer_line joined
-  told_shown z hn hL summary records es er =
-      ap₂ (λ (c r : List ℕ). shown m n seed number (length block) c r) es er
-      ∙ ap₂ (λ (a b : List ℕ). a ++ (b ++ join_line (joined m n seed number block).number (joined m n seed number block).read (length block)))
-      (head_lines m n seed number block hn hL) (body_lines m n seed number block)
-      ∙ told_lines z
+  pub told_shown : 0 ≡ cut_refusal m n seed block → number < 2 ^ 64 → length block < 2 ^ 32
+      → shown m n seed number (length block) (check m n seed number block) (fragments m n number block) ≡ told m n seed number block
+  unfolding shown lines answer_line joined told
+  told_shown e hn hL =
+      ap₂ (λ (a b : List ℕ). a ++ (b ++ join_line (joined m n seed number block).number (joined m n seed number block).read (length block)))
+      (head_lines hn hL) body_lines
+      ∙ sym (simp (eq-eqb (cut_refusal m n seed block) 0 (sym e)))
 
 pub printed_short : (input : List ℕ) → length input < 13 → refusal_line 4 ≡ printed input
 unfolding printed
@@ -92,7 +79,4 @@ printed_told input seed number some h es en =
     (λ i. told (get_or input 0 0) (get_or input 1 0) (es i) (en i) (rest_lent input 13 i))
     ∙ grind (arith, nat_tests)
 
--- bytes placed at a text's start
-pub at_start : (text bytes next : List ℕ) (end : ℕ) → end ≡ length bytes → next ≡ placed text 0 bytes → next ≡ bytes ++ drop end text
-unfolding placed
-at_start text bytes next end ee e = e ∙ ap (λ (k : ℕ). bytes ++ drop k text) (zero-add (length bytes) ∙ sym ee)
+pub ruleset printing = (printed_short, printed_long, printed_told)

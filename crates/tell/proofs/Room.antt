@@ -3,6 +3,8 @@ use mathlib.Core.Path.{◌≡◌, refl, ap, ◌∙◌}
 use Prim.Native.Nat.{ℕ, zero, suc, ◌+◌, ◌-◌, ◌*◌, ◌/◌, ◌<◌, ◌≤◌}
 use native.Mathlib.Nat.{div-lt_iff_lt-mul, mul-le-mul_right}
 use native.Mathlib.Omega.{arith}
+use lib.ListN.{length}
+use lib.Seq.{length-take-le}
 use Rattle.code.specs.Cutting.{body_length}
 use Rattle.code.proofs.Lengths.{no_bodies}
 use Rattle.record.specs.Layout.{head, written_version, check_length, record_length}
@@ -20,18 +22,12 @@ body_short L (suc m) h =
 pub records_short : (n size : ℕ) → n < 256 → size ≤ 531 → n * size ≤ 135405
 records_short n size hn hs = omega (arith, mul-le-mul_right size (let h : n ≤ 255 = omega arith in h))
 
--- what is left out of the first parts ends before them all
-pub before : (n m size : ℕ) → (n - m) * size ≤ n * size
-before n m size = mul-le-mul_right size (let h : n - m ≤ n = omega arith in h)
-
-module _ (L m n size whole : ℕ) (es : size ≡ body_length L m) (ew : whole ≡ record_length written_version size) where
-  pub records_fit : L ≤ 512 → n < 256 → n * whole ≤ 135405
-  unfolding head
-  records_fit hL hn = records_short n whole hn (omega (arith, body_short L m hL))
-
-  pub records_are : n * whole ≡ n * record_length written_version (body_length L m)
-  records_are = ap (λ (x : ℕ). n * x) (ew ∙ ap (record_length written_version) es)
-
-pub check_short : (m n size : ℕ) → m < 256 → n < 256 → size ≡ check_length written_version m n → size ≤ 8947
+pub record_is : (F : ℕ) → record_length written_version F ≡ 18 + F
 unfolding head
-check_short m n size hm hn e = omega arith
+record_is F = refl
+
+pub check_is : (m n : ℕ) → check_length written_version m n ≡ 22 + 32 * n + 3 * m
+unfolding head
+check_is m n = omega arith
+
+pub ruleset room = (body_short, records_short, record_is, check_is, length-take-le)

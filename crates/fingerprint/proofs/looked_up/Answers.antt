@@ -5,4 +5,4 @@ use Rattle.fingerprint.proofs.looked_up.Goals as goal
 
 pub returns : goal.returns
 unfolding looked_up unpacked
-returns c = unpacked_plus₃ _ _ _
+returns c = rw (c.from.ensures, c.from-2.ensures, c.from-3.ensures, c.to_le_bytes.ensures) (unpacked_plus₃ _ _ _)

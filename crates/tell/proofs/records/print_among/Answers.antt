@@ -1,21 +1,16 @@
--- `records::print_among` meets its contract: the fingerprint of the body where it stands.
-use Rattle.std.specs.Prelude.{◌≡◌, Result, Ok, Err}
-use Rattle.std.specs.Result.{result_unwrap_or}
-use mathlib.Core.Path.{refl, ap, ◌∙◌}
-use Rattle.refusal.specs.declared.Refusal.{Refusal}
-use Rattle.column.specs.declared.Column.{Column}
-use Rattle.column.specs.Column.{zero}
-use Rattle.fingerprint.specs.Answer.{numbers_of, fingerprinted}
+-- `records::print_among` meets its contract: the fingerprint of the body where it stands, which is not refused.
+use Rattle.std.proofs.Common.{◌≡◌, Ok, refl, sym, ◌∙◌, arith}
+use Rattle.std.proofs.lemmas.Grind.{common_steps}
 use Rattle.tell.proofs.Shown.{print_is}
+use Rattle.tell.specs.Parts.{print_among}
 use Rattle.tell.proofs.records.print_among.Goals as goal
 
-column_is : (r : Result Column Refusal) → result_unwrap_or r zero ≡ (numbers_of r).column
-column_is (Ok u) = refl
-column_is (Err refusal) = refl
+pub unwrap-requires : goal.unwrap-requires
+unwrap-requires c =
+    rw (print_is c.args.size c.args.seed c.args.fragments.now c.args.index _ _ c.requires.size_in_bounds c.requires.size_le_longest_body c.body_among.ensures c.fingerprint.ensures) refl
 
 pub returns : goal.returns
 returns c =
-    c.unwrap_or.ensures ∙ column_is c.fingerprint.result
-    ∙ print_is c.args.size c.args.seed c.args.fragments.now c.args.index (numbers_of c.fingerprint.result)
-    c.requires.size_in_bounds c.requires.size_le_longest_body.0 c.requires.size_le_longest_body.1 c.requires.size_le_longest_body.2
-    (c.fingerprint.ensures ∙ ap (fingerprinted c.args.seed) c.body_among.ensures)
+    let same : Ok c.unwrap.result ≡ Ok (print_among c.args.size c.args.seed c.args.fragments.now c.args.index) =
+    sym c.unwrap.ensures ∙ print_is _ _ _ _ _ _ c.requires.size_in_bounds c.requires.size_le_longest_body c.body_among.ensures c.fingerprint.ensures in
+    grind (arith, common_steps)

@@ -1,15 +1,11 @@
 -- `text::add_line` meets its contract: the mark, the numbers, the ending.
-use native.Mathlib.Omega.{arith}
-use Rattle.tell.proofs.Adding.{grown_three}
-use Rattle.tell.proofs.Decimals.{spelled, spelled_length}
+use Rattle.std.proofs.Common.{arith, length}
+use Rattle.std.proofs.lemmas.Grind.{common_steps}
+use Rattle.tell.proofs.Decimals.{first_short}
 use Rattle.tell.proofs.text.add_line.Goals as goal
 
-pub add-requires : goal.add-requires
-add-requires c = omega (arith, c.add-first.ensures.value, c.add-first.auto.text, c.add_numbers-second.ensures.value, c.add_numbers-second.auto.text, spelled_length c.args.numbers.now, c.requires)
+pub add_number-requires : goal.add_number-requires
+add_number-requires c = grind (arith, common_steps, first_short c.loop-number.number-index c.args.numbers.now)
 
-pub returns : goal.returns
-returns c =
-    let grown =
-    grown_three c.args.text.now c.args.at c.args.mark (spelled c.args.numbers.now) c.args.ending.now c.add-first.new.text c.add_numbers-second.new.text c.add.new.text c.add-first.result c.add_numbers-second.result c.add.result
-    (omega (arith, spelled_length c.args.numbers.now, c.requires)) c.add-first.ensures.value c.add-first.ensures.text_after c.add_numbers-second.ensures.value c.add_numbers-second.ensures.text_after c.add.ensures.value c.add.ensures.text_after in
-    record { value = grown.ends; text_after = grown.done }
+pub add-requires-2 : goal.add-requires-2
+add-requires-2 c = grind (arith, common_steps, first_short c.loop-number.number-index c.args.numbers.now)
