@@ -1,7 +1,27 @@
 // Cuts: each refusal on both sides of its bound, the order of the refusals, and the standard setting.
-use crate::line;
 use refusal::Refusal;
 use std::io;
+
+// A cut of so many bytes 01 into so many bytes of each buffer.
+#[derive(Clone, Copy)]
+struct Case {
+    m: u32,
+    n: u32,
+    seed: u32,
+    length: usize,
+    records: usize,
+    check: usize,
+}
+
+// Refused by none.
+const SOUND: Case = Case {
+    m: 2,
+    n: 4,
+    seed: 0,
+    length: 6,
+    records: 84,
+    check: 156,
+};
 
 pub(crate) fn run(rt: &HostRuntime) -> io::Result<()> {
     counts(rt)?;
@@ -10,133 +30,161 @@ pub(crate) fn run(rt: &HostRuntime) -> io::Result<()> {
     seeds(rt)?;
     buffers(rt)?;
     order(rt)?;
-    standard(rt, 252)?;
-    standard(rt, 251)?;
-    sizes(rt)?;
+    for records in [252, 251] {
+        standard(rt, records)?;
+    }
+    for length in [0, 6, 65536, 65537] {
+        card_size(rt, length)?;
+    }
     Ok(())
 }
 
 // 1. Where m is n there is none to spare.
 fn counts(rt: &HostRuntime) -> io::Result<()> {
-    cut(rt, 1, 64, 0, 6, 1536, 2073)?;
-    cut(rt, 1, 65, 0, 6, 1536, 2073)?;
-    cut(rt, 4, 4, 0, 6, 84, 162)?;
-    cut(rt, 5, 4, 0, 6, 84, 162)?;
-    cut(rt, 0, 4, 0, 6, 84, 162)?;
+    for n in [64, 65] {
+        let case = Case {
+            m: 1,
+            n,
+            records: 1536,
+            check: 2073,
+            ..SOUND
+        };
+        cut(rt, case)?;
+    }
+    for m in [4, 5, 0] {
+        let case = Case {
+            m,
+            check: 162,
+            ..SOUND
+        };
+        cut(rt, case)?;
+    }
     Ok(())
 }
 
 // 0 of 0, and counts that no byte holds.
 fn other_counts(rt: &HostRuntime) -> io::Result<()> {
-    cut(rt, 0, 0, 0, 6, 84, 162)?;
-    cut(rt, 300, 300, 0, 6, 84, 162)?;
-    cut(rt, 4294967295, 4294967295, 0, 6, 84, 162)?;
+    for count in [0, 300, u32::MAX] {
+        let case = Case {
+            m: count,
+            n: count,
+            check: 162,
+            ..SOUND
+        };
+        cut(rt, case)?;
+    }
     Ok(())
 }
 
 // 2.
 fn lengths(rt: &HostRuntime) -> io::Result<()> {
-    cut(rt, 1, 1, 0, 65536, 65556, 57)?;
-    cut(rt, 2, 4, 0, 65537, 84, 156)?;
-    cut(rt, 2, 4, 0, 0, 72, 156)?;
+    for case in [
+        Case {
+            m: 1,
+            n: 1,
+            length: 65536,
+            records: 65556,
+            check: 57,
+            ..SOUND
+        },
+        Case {
+            length: 65537,
+            ..SOUND
+        },
+        Case {
+            length: 0,
+            records: 72,
+            ..SOUND
+        },
+    ] {
+        cut(rt, case)?;
+    }
     Ok(())
 }
 
 // 3.
 fn seeds(rt: &HostRuntime) -> io::Result<()> {
-    cut(rt, 2, 4, 16777215, 6, 84, 156)?;
-    cut(rt, 2, 4, 16777216, 6, 84, 156)?;
-    cut(rt, 2, 4, 4294967295, 6, 84, 156)?;
+    for seed in [16777215, 16777216, u32::MAX] {
+        cut(rt, Case { seed, ..SOUND })?;
+    }
     Ok(())
 }
 
 // 4.
 fn buffers(rt: &HostRuntime) -> io::Result<()> {
-    cut(rt, 2, 4, 0, 6, 83, 156)?;
-    cut(rt, 2, 4, 0, 6, 85, 156)?;
-    cut(rt, 2, 4, 0, 6, 84, 155)?;
-    cut(rt, 2, 4, 0, 6, 84, 157)?;
-    Ok(())
-}
-
-// Several apply at once: the first is given.
-fn order(rt: &HostRuntime) -> io::Result<()> {
-    cut(rt, 0, 4, 16777216, 65537, 0, 0)?;
-    cut(rt, 2, 4, 16777216, 65537, 0, 0)?;
-    cut(rt, 2, 4, 16777216, 6, 0, 0)?;
-    Ok(())
-}
-
-fn sizes(rt: &HostRuntime) -> io::Result<()> {
-    card_size(rt, 0)?;
-    card_size(rt, 6)?;
-    card_size(rt, 65536)?;
-    card_size(rt, 65537)?;
-    Ok(())
-}
-
-// Cuts so many bytes 01 into so many bytes of each buffer. The first byte of each is then 4C, of a mark, or what was there.
-fn cut(
-    rt: &HostRuntime,
-    m: u32,
-    n: u32,
-    seed: u32,
-    length: usize,
-    records: usize,
-    check: usize,
-) -> io::Result<()> {
-    let block = [1u8; 65537];
-    let mut fragments = [0xeeu8; 65556];
-    let mut summary = [0xeeu8; 2073];
-    if length <= block.len() {
-        if records <= fragments.len() {
-            if check <= summary.len() {
-                let answer = cut::cut(
-                    m,
-                    n,
-                    seed,
-                    7,
-                    &block[0..length],
-                    &mut fragments[0..records],
-                    &mut summary[0..check],
-                );
-                asked(rt, m, n, seed, length, records, check)?;
-                told(rt, answer, fragments[0], summary[0])?;
-            }
-        }
+    for records in [83, 85] {
+        cut(rt, Case { records, ..SOUND })?;
+    }
+    for check in [155, 157] {
+        cut(rt, Case { check, ..SOUND })?;
     }
     Ok(())
 }
 
-fn asked(
-    rt: &HostRuntime,
-    m: u32,
-    n: u32,
-    seed: u32,
-    length: usize,
-    records: usize,
-    check: usize,
-) -> io::Result<()> {
-    line::text(rt, "cut m, n, seed, L, buffers")?;
-    line::number(rt, m as u64)?;
-    line::number(rt, n as u64)?;
-    line::number(rt, seed as u64)?;
-    line::number(rt, length as u64)?;
-    line::number(rt, records as u64)?;
-    line::number(rt, check as u64)?;
+// Where several apply, the first is given.
+fn order(rt: &HostRuntime) -> io::Result<()> {
+    let none = Case {
+        seed: 16777216,
+        records: 0,
+        check: 0,
+        ..SOUND
+    };
+    for case in [
+        Case {
+            m: 0,
+            length: 65537,
+            ..none
+        },
+        Case {
+            length: 65537,
+            ..none
+        },
+        none,
+    ] {
+        cut(rt, case)?;
+    }
     Ok(())
 }
 
-fn told(rt: &HostRuntime, answer: Result<(), Refusal>, first: u8, second: u8) -> io::Result<()> {
-    let number = match answer {
-        Ok(()) => 0,
-        Err(refusal) => refusal.number(),
-    };
-    line::text(rt, ":")?;
-    line::number(rt, u64::from(number))?;
-    line::byte(rt, first)?;
-    line::byte(rt, second)?;
-    line::end(rt)?;
+// The first byte of each buffer is then 4C, of a mark, or what was there.
+fn cut(rt: &HostRuntime, case: Case) -> io::Result<()> {
+    let Case {
+        m,
+        n,
+        seed,
+        length,
+        records,
+        check,
+    } = case;
+    let block = [1; 65537];
+    let mut fragments = [0xee; 65556];
+    let mut summary = [0xee; 2073];
+    if let (Some(block), Some(lent), Some(other)) = (
+        block.get(..length),
+        fragments.get_mut(..records),
+        summary.get_mut(..check),
+    ) {
+        let number = number(cut::cut(m, n, seed, 7, block, lent, other));
+        println!(rt;
+            "cut m, n, seed, L, buffers {m} {n} {seed} {length} {records} {check}: {number} {:02x} {:02x}",
+            fragments[0], summary[0]
+        )?;
+    }
+    Ok(())
+}
+
+// Eight of twelve, with so many bytes for the records.
+fn standard(rt: &HostRuntime, records: usize) -> io::Result<()> {
+    let mut fragments = [0xee; 252];
+    let mut summary = [0xee; 430];
+    let block = [1, 1, 1, 1, 1, 1];
+    if let Some(lent) = fragments.get_mut(..records) {
+        let number = number(cut::cut_standard(0, 7, &block, lent, &mut summary));
+        println!(rt;
+            "cut in the standard setting, L, buffers 6 {records} 430: {number} {:02x} {:02x}",
+            fragments[0], summary[0]
+        )?;
+    }
     Ok(())
 }
 
@@ -145,31 +193,13 @@ fn card_size(rt: &HostRuntime, length: u64) -> io::Result<()> {
         Ok(size) => (0, size),
         Err(refusal) => (refusal.number(), 0),
     };
-    line::text(rt, "card size for L")?;
-    line::number(rt, length)?;
-    line::text(rt, ":")?;
-    line::number(rt, u64::from(number))?;
-    line::number(rt, size)?;
-    line::end(rt)?;
-    Ok(())
+    println!(rt; "card size for L {length}: {number} {size}")
 }
 
-// Eight of twelve, with so many bytes for the records.
-fn standard(rt: &HostRuntime, records: usize) -> io::Result<()> {
-    let mut fragments = [0xeeu8; 252];
-    let mut summary = [0xeeu8; 430];
-    if records <= fragments.len() {
-        let answer = cut::cut_standard(
-            0,
-            7,
-            &[1, 1, 1, 1, 1, 1],
-            &mut fragments[0..records],
-            &mut summary,
-        );
-        line::text(rt, "cut in the standard setting, L, buffers 6")?;
-        line::number(rt, records as u64)?;
-        line::number(rt, 430)?;
-        told(rt, answer, fragments[0], summary[0])?;
+// 0 of a cut that is done.
+fn number(answer: Result<(), Refusal>) -> u32 {
+    match answer {
+        Ok(()) => 0,
+        Err(refusal) => refusal.number(),
     }
-    Ok(())
 }

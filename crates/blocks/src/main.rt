@@ -4,13 +4,11 @@
 
 mod cutting;
 mod joining;
-mod line;
 mod setting;
 
 use std::io;
 
 fn main(rt: HostRuntime) -> io::Result<()> {
     cutting::run(&rt)?;
-    joining::run(&rt)?;
-    Ok(())
+    joining::run(&rt)
 }

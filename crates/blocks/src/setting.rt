@@ -1,56 +1,61 @@
 // What a join is handed: the records of a cut, whole or in part, with other bytes or another length in some places.
-#[derive(Clone, Copy)]
+use arrayvec::ArrayVec;
+
+#[derive(Drop)]
 pub(crate) struct Setting {
     pub(crate) wanted: u64,
-    pub(crate) check: [u8; 162],
-    pub(crate) check_length: usize,
-    pub(crate) records: [u8; 105],
-    pub(crate) from: usize,
-    pub(crate) to: usize,
+    pub(crate) check: ArrayVec<u8, 162>,
+    // Room for a fifth.
+    pub(crate) records: ArrayVec<u8, 105>,
+    // How many bytes of the output are lent.
     pub(crate) output: usize,
 }
 
-// All four records of block 01 to 06, number 7, any m of which are enough, with room for a fifth.
-pub(crate) fn cut(m: u32, check_length: usize) -> Setting {
-    let mut check = [0u8; 162];
-    let mut records = [0u8; 105];
-    if check_length <= check.len() {
-        // refused with another check_length: the records are then zero bytes
+impl Setting {
+    // All four records of block 01 to 06, number 7, any m of which are enough.
+    pub(crate) fn cut(m: u32, check_length: usize) -> Setting {
+        let mut check = ArrayVec::from([0; 162]);
+        check.truncate(check_length);
+        let mut records = [0; 84];
+        // Refused with another check_length: the records are then zero bytes.
         let _ = cut::cut(
             m,
             4,
             256,
             7,
             &[1, 2, 3, 4, 5, 6],
-            &mut records[0..84],
-            &mut check[0..check_length],
+            &mut records,
+            check.as_mut_slice(),
         );
+        Setting {
+            wanted: 7,
+            check,
+            records: room(&records),
+            output: 6,
+        }
     }
-    Setting {
-        wanted: 7,
-        check,
-        check_length,
-        records,
-        from: 0,
-        to: 84,
-        output: 6,
-    }
-}
 
-impl Setting {
     pub(crate) fn wanting(mut self, number: u64) -> Setting {
         self.wanted = number;
         self
     }
 
     pub(crate) fn with_check_of(mut self, length: usize) -> Setting {
-        self.check_length = length;
+        self.check.truncate(length);
         self
     }
 
+    // Bytes `from` to `to` of the records.
     pub(crate) fn with_part(mut self, from: usize, to: usize) -> Setting {
-        self.from = from;
-        self.to = to;
+        self.records.truncate(to);
+        let part = room(self.records.as_slice().get(from..).unwrap_or_default());
+        self.records = part;
+        self
+    }
+
+    // A fifth record, of zero bytes.
+    pub(crate) fn with_fifth(mut self) -> Setting {
+        let _ = self.records.try_extend_from_slice(&[0; 21]);
         self
     }
 
@@ -60,22 +65,23 @@ impl Setting {
     }
 
     pub(crate) fn with_check(mut self, at: usize, bytes: &[u8]) -> Setting {
-        let mut check = self.check;
-        put(&mut check, at, bytes);
-        self.check = check;
+        put(self.check.as_mut_slice(), at, bytes);
         self
     }
 
     pub(crate) fn with_records(mut self, at: usize, bytes: &[u8]) -> Setting {
-        let mut records = self.records;
-        put(&mut records, at, bytes);
-        self.records = records;
+        put(self.records.as_mut_slice(), at, bytes);
         self
     }
 }
 
-fn put(room: &mut [u8], at: usize, bytes: &[u8]) {
-    if at <= room.len() {
-        record::put(&mut room[at..], bytes);
+fn room(records: &[u8]) -> ArrayVec<u8, 105> {
+    ArrayVec::try_from(records).unwrap_or_default()
+}
+
+// Other bytes from a place on, where they fit. The like in `verdicts` is of another program: a library of these lines is no plainer.
+fn put(bytes: &mut [u8], at: usize, others: &[u8]) {
+    if let Some(rest) = bytes.get_mut(at..) {
+        record::put(rest, others);
     }
 }

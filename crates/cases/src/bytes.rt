@@ -16,7 +16,7 @@ pub(crate) fn run(rt: &HostRuntime) -> io::Result<()> {
         println!(rt; "03 to the power {k} {power:02x}")?;
     }
     let u = Column { a: 0, b: 0, c: 1 };
-    let Column { a, b, c } = u.times(u);
+    let Column { a, b, c } = u * u;
     println!(rt;
         "square of {:02x} {:02x} {:02x} {a:02x} {b:02x} {c:02x}",
         u.a, u.b, u.c

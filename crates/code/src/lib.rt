@@ -2,6 +2,7 @@
 // another, and the sum of bodies, to which a multiple of one is added at a time. No function asks anything of its caller.
 #![tactic(auto)]
 
+pub mod stated;
 mod weights;
 
 ghost use Rattle.std.specs.Prelude.{◌≡◌, min, length, replicate};

@@ -1,2 +1,3 @@
 pub mod Triple
 pub mod Column
+pub mod Stated

@@ -2,6 +2,8 @@
 // Column (a, b, c) is a + b x + c x^2 modulo x^3 + x + 1. No function asks anything of its caller.
 #![tactic(auto)]
 
+pub mod stated;
+
 ghost use Rattle.std.specs.Prelude.{◌≡◌, [], ◌∷◌};
 ghost use Rattle.column.specs.Column as column;
 

@@ -1,8 +1,7 @@
 -- The check record from the bodies where they stand: each fingerprint, and the three parts of the record.
 use mathlib.Core.Path.{◌≡◌, ap, ap₂, ◌∙◌}
 use mathlib.Core.List.{List, [], ◌∷◌}
-use Prim.Native.Nat.{ℕ, zero, suc, ◌+◌, ◌*◌, ◌<◌, ◌≤◌}
-use native.Mathlib.Omega.{arith}
+use Prim.Native.Nat.{ℕ, zero, suc, ◌+◌, ◌*◌, ◌<◌}
 use lib.ListN.{take, drop}
 use Rattle.algebra.specs.Several.{All}
 use Rattle.algebra.proofs.Several.{all_take}

@@ -48,34 +48,28 @@ pub(crate) fn write_check(
 }
 
 // Writes the hash of each of n bodies, one after the other.
+#[tactic(auto, using(crate::proofs::Filling::filled_none, crate::proofs::Filling::filled_more, sha256::proofs::Lengths::length_SHA_256))]
 fn write_hashes(out: &mut [u8], n: u8, size: u32, fragments: &[u8])
-    requires out_len { length out.old ≡ 32 * n }
-    requires size_in_bounds { n * layout.record_length layout.written_version size ≤ length fragments.now }
+    requires { length out.old ≡ 32 * n }
     ensures { out.new ≡ end_to_end (listed n (λ i. SHA_256 (cut.body_among size fragments.now i))) }
 {
-    let mut i: u8 = 0;
-    while i < n {
+    for i in 0..n {
+        let start = 32 * usize::from(i);
         let digest = sha256::digest(body_among(size, fragments, i));
-        let start = 32 * (i as usize);
-        let end = start + 32;
-        record::put(&mut out[start..end], &digest);
-        i += 1;
+        out[start..start + 32].copy_from_slice(&digest);
     }
 }
 
 // Writes the fingerprint of each of the first m bodies, one after the other, with one table for all.
+#[tactic(auto, using(crate::proofs::Filling::filled_none, crate::proofs::Filling::filled_more, crate::proofs::Among::print_is))]
 fn write_prints(out: &mut [u8], m: u8, size: u32, y: Column, fragments: &[u8])
-    requires out_len { length out.old ≡ 3 * m }
-    requires size_in_bounds { m * layout.record_length layout.written_version size ≤ length fragments.now }
+    requires { length out.old ≡ 3 * m }
     ensures { out.new ≡ end_to_end (listed m (λ j. layout.column_bytes (print.fingerprint_at y (cut.body_among size fragments.now j)))) }
 {
-    let table = fingerprint::table(y.times(y));
-    let mut j: u8 = 0;
-    while j < m {
+    let table = fingerprint::table(y * y);
+    for j in 0..m {
+        let start = 3 * usize::from(j);
         let print = fingerprint::evaluated(&table, y, body_among(size, fragments, j));
-        let start = 3 * (j as usize);
-        let end = start + 3;
-        record::put(&mut out[start..end], &[print.a, print.b, print.c]);
-        j += 1;
+        out[start..start + 3].copy_from_slice(&print.to_bytes());
     }
 }

@@ -1,2 +1,3 @@
 pub mod Adding
 pub mod Byte
+pub mod Stated

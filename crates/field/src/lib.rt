@@ -5,6 +5,7 @@
 
 mod adding;
 mod many;
+pub mod stated;
 mod tables;
 
 ghost use Rattle.std.specs.Prelude.{◌≡◌};

@@ -5,5 +5,4 @@ pub mod Combined
 pub mod Exits
 pub mod Lookups
 pub mod Packing
-pub mod Parts
 pub mod Steps

@@ -1,3 +1,4 @@
 pub mod Answer
 pub mod Fingerprint
 pub mod Horner
+pub mod Stated

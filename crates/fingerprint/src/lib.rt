@@ -2,6 +2,8 @@
 // for of a body. No public function asks anything of its caller.
 #![tactic(auto)]
 
+pub mod stated;
+
 ghost use Rattle.std.specs.Prelude.{◌≡◌, ◌+◌, ◌≤◌, ◌<◌, length, get_or, drop};
 ghost use Rattle.algebra.specs.Several.{listed};
 ghost use Rattle.field.specs.Byte.{plus};
@@ -28,50 +30,70 @@ pub fn fingerprint(seed: u32, body: &[u8]) -> Result<Column, Refusal>
     if body.len() % 3 != 0 {
         return Err(Refusal::WrongLength);
     }
-    Ok(SeedTable::new(Column::from_seed(seed)).fingerprint(body))
+    Ok(fingerprint_at(Column::from_seed(seed), body))
 }
 
-// A seed column with the table of its square: what a fingerprint of any body at that seed is read from.
-#[derive(Drop)]
-pub struct SeedTable {
+// The fingerprint of a body of any length at a seed column.
+pub fn fingerprint_at(seed: Column, body: &[u8]) -> Column
+    ensures { result ≡ print.fingerprint_at seed body.now }
+{
+    let mut room = [0; 768];
+    SeedTable::new(seed, &mut room).fingerprint(body)
+}
+
+// A seed column and the table of its square, for the fingerprints of many bodies at that seed. The table is lent, so that no copy
+// of it is ever made.
+#[derive(Clone, Copy)]
+pub struct SeedTable<'a> {
     seed: Column,
-    entries: [u32; 768],
+    entries: &'a [u32; 768],
     ghost small: { (seed.a < 256) × (seed.b < 256) × (seed.c < 256) },
-    ghost of_square: { entries ≡ horner.table_of (column.times seed seed) },
+    ghost of_square: { entries.now ≡ horner.table_of (column.times seed seed) },
 }
 
-impl SeedTable {
-    pub fn new(seed: Column) -> SeedTable
+impl<'a> SeedTable<'a> {
+    // The table is put into `room`.
+    pub fn new(seed: Column, room: &'a mut [u32; 768]) -> SeedTable<'a>
         ensures { result.seed ≡ seed }
     {
+        put_table(room, seed * seed);
         SeedTable {
             seed,
-            entries: table(seed * seed),
+            entries: room,
         }
     }
 
-    // The fingerprint at that seed of a body of any length; a last column that is not whole is filled with zero bytes.
+    // The fingerprint of a body of any length; a last column that is not whole is filled with zero bytes.
     pub fn fingerprint(&self, body: &[u8]) -> Column
         ensures { result ≡ print.fingerprint_at self.now.seed body.now }
     {
-        evaluated(&self.entries, self.seed, body)
+        evaluated(self.entries, self.seed, body)
     }
 }
 
-// For each byte k the multiples by k of y, of x y and of x^2 y. The bytes of the two others are sums of y's, and so are their rows.
+// For each byte k the multiples by k of y, of x y and of x^2 y.
 pub fn table(y: Column) -> [u32; 768]
     ensures { result ≡ horner.table_of y }
+{
+    let mut out = [0; 768];
+    put_table(&mut out, y);
+    out
+}
+
+// The same into a lent table. The bytes of x y and x^2 y are sums of y's, and so are their rows.
+fn put_table(out: &mut [u32; 768], y: Column)
+    ensures { out.new ≡ horner.table_of y }
 {
     let a = field::row(y.a);
     let b = field::row(y.b);
     let c = field::row(y.c);
     let ac = sums(&a, &c);
     let cb = sums(&c, &b);
-    let mut out = [0u32; 768];
-    fill(&mut out[0..256], &a, &b, &c);
-    fill(&mut out[256..512], &c, &ac, &b);
-    fill(&mut out[512..768], &b, &cb, &ac);
-    out
+    let (one, rest) = out.split_at_mut(256);
+    let (two, three) = rest.split_at_mut(256);
+    fill(one, &a, &b, &c);
+    fill(two, &c, &ac, &b);
+    fill(three, &b, &cb, &ac);
 }
 
 // The row of the sum of two bytes, from their rows.

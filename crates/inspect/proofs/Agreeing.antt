@@ -1,7 +1,8 @@
 -- The tests of 11 and 12 as the code makes them, from what it read, are those of the definitions.
 use mathlib.Core.Path.{◌≡◌, refl, sym, ap, ap₂, subst, ◌∙◌}
 use mathlib.Core.Bool.{Bool, true, false, ◌&&◌}
-use mathlib.Core.List.{List}
+use mathlib.Core.List.{List, [], ◌∷◌}
+use Rattle.std.specs.Cmp.Lexicographic.{pointwise}
 use Prim.Native.Nat.{ℕ, ◌+◌, ◌*◌, ◌-◌, ◌<◌, ◌≤◌}
 use native.Mathlib.Omega.{arith}
 use lib.Dec.{eqb}
@@ -21,26 +22,24 @@ use Rattle.record.specs.Heads.{check_head_of}
 use Rattle.inspect.specs.Check.{same_bytes, hash_of, hash_agrees, print_agrees}
 use Rattle.inspect.proofs.Called.{same_sound, same_self}
 
--- a flag that is set exactly where two lists are the same
-same_test : (xs ys : List ℕ) (r : Bool) → (r ≡ true → xs ≡ ys) → (xs ≡ ys → r ≡ true) → r ≡ same_bytes xs ys
-same_test xs ys true to from = sym (subst (λ (l : List ℕ). same_bytes xs l ≡ true) (to refl) (same_self xs))
-same_test xs ys false to from = go (same_bytes xs ys) refl
-  where
-    go : (b : Bool) → same_bytes xs ys ≡ b → false ≡ b
-    go true e = from (same_sound xs ys e)
-    go false e = refl
+-- std's test of two lists, element by element, is the definition's
+pub same_pointwise : (xs ys : List ℕ) → pointwise eqb xs ys ≡ same_bytes xs ys
+unfolding same_bytes
+same_pointwise [] [] = refl
+same_pointwise [] (y ∷ ys) = refl
+same_pointwise (x ∷ xs) [] = refl
+same_pointwise (x ∷ xs) (y ∷ ys) = ap (λ (r : Bool). eqb x y && r) (same_pointwise xs ys)
 
 module _ (check body : List ℕ) (h : CheckHead) (eh : h ≡ check_head_of check) (index at : ℕ) where
-  pub hash_test : (digest : List ℕ) (r : Bool) → digest ≡ SHA_256 body
-      → at ≡ hashes_place h.version + 32 * index
-      → (r ≡ true → digest ≡ take (at + 32 - at) (drop at check)) × (digest ≡ take (at + 32 - at) (drop at check) → r ≡ true)
+  pub hash_test : (digest : List ℕ) (r : Bool) → digest ≡ SHA_256 body → length digest ≡ 32 → at ≡ hashes_place h.version + 32 * index
+      → r ≡ pointwise eqb digest (take (length digest) (take (length check - at) (drop at check)))
       → r ≡ hash_agrees check index body
   unfolding hash_agrees hash_of
-  hash_test digest r e ea same =
-      let count : at + 32 - at ≡ 32 = omega arith in
-      same_test digest (take (at + 32 - at) (drop at check)) r same.0 same.1
+  hash_test digest r e long ea same =
+      same
+      ∙ same_pointwise digest _
       ∙ ap₂ same_bytes e
-      (ap₂ (λ (k p : ℕ). take k (drop p check)) count (ea ∙ ap (λ (g : CheckHead). hashes_place g.version + 32 * index) eh))
+      (ap₂ take long (part_to_end check at ∙ ap (λ (p : ℕ). drop p check) (ea ∙ ap (λ (g : CheckHead). hashes_place g.version + 32 * index) eh)))
 
   pub print_test : (z : Column) (t : List ℕ) (u w : Column) → Bytes h.seed → All (λ n. n < 256) body
       → z ≡ times h.seed h.seed → t ≡ table_of z → u ≡ evaluated t h.seed (columns_of body)

@@ -48,13 +48,6 @@ module _ (check : List ℕ) (shaped : check_shaped check ≡ true) where
     pub prints_within : (at : ℕ) → at ≡ prints_place h.version h.n → at ≤ length check
     prints_within at e = omega (arith, check_sized)
 
-    -- so that no body is too long to be hashed
-    pub size_fits : body_length h.length h.m ≤ longest_body
-    unfolding counts_fit
-    size_fits =
-        subst (λ (g : CheckHead). body_length g.length g.m ≤ longest_body) (sym eh)
-        (body_length_fits c.length c.m (leb-true _ _ (both_left _ _ measured)) (leb-true _ _ (both_left _ _ (both_left _ _ counted))))
-
 module _ (version F : ℕ) (fragment : List ℕ) (shaped : fragment_shaped version F fragment ≡ true) where
   abbrev f : FragmentHead
   f = fragment_head_of fragment
@@ -70,6 +63,6 @@ module _ (version F : ℕ) (fragment : List ℕ) (shaped : fragment_shaped versi
     pub body_within : at ≤ length fragment
     body_within = omega (arith, whole)
 
-    -- the part from the body's place to the end
-    pub body_sized : length (take (length fragment - at) (drop at fragment)) ≡ F
-    body_sized = ap length (part_to_end fragment at) ∙ omega (arith, length-drop at fragment, whole)
+-- the same of the place as it is defined
+pub body_lies_within : (version F : ℕ) (fragment : List ℕ) → fragment_shaped version F fragment ≡ true → body_place version ≤ length fragment
+body_lies_within version F fragment shaped = body_within version F fragment shaped _ refl

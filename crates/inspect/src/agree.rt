@@ -3,6 +3,7 @@ ghost use Rattle.std.specs.Prelude.{◌≡◌, true, ◌<◌};
 ghost use Rattle.record.specs.Heads as heads;
 ghost use Rattle.inspect.specs.Check as inspection;
 
+use fingerprint::SeedTable;
 use record::CheckHead;
 
 // 11 is given unless this holds.
@@ -11,21 +12,18 @@ pub(crate) fn hash_agrees(check: &[u8], c: CheckHead, index: u8, body: &[u8]) ->
     requires index_lt_n { index < c.n }
     ensures { result ≡ inspection.hash_agrees check.now index body.now }
 {
-    let digest = sha256::digest(body);
     let at = record::hash_place(c.version, index);
-    let end = at + digest.len();
-    check::same(&digest, &check[at..end])
+    check[at..].starts_with(&sha256::digest(body))
 }
 
 // 12 is given unless this holds.
+#[tactic(auto, unfolding(crate::specs::Check::print_agrees))]
 pub(crate) fn print_agrees(check: &[u8], c: CheckHead, index: u8, body: &[u8]) -> bool
     requires { (c ≡ heads.check_head_of check.now) × (heads.check_shaped check.now ≡ true) }
     ensures { result ≡ inspection.print_agrees check.now index body.now }
 {
-    let y = c.seed;
-    let table = fingerprint::table(y.times(y));
-    let found = fingerprint::evaluated(&table, y, body);
+    let found = SeedTable::new(c.seed).fingerprint(body);
     let at = record::prints_place(c.version, c.n);
     let called = fingerprint::called_for(c.m, index, &check[at..]);
-    (found.a == called.a) & ((found.b == called.b) & (found.c == called.c))
+    found == called
 }

@@ -4,6 +4,7 @@
 
 mod agree;
 mod refused;
+pub mod stated;
 
 ghost use Rattle.std.specs.Prelude.{◌≡◌, ◌+◌};
 ghost use Rattle.inspect.specs.Answer.{answer};
@@ -12,7 +13,7 @@ ghost use Rattle.inspect.specs.Check.{checked, opened, opened_place};
 use agree::{hash_agrees, print_agrees};
 
 // Why a fragment is refused, in document 01's order.
-#[derive(Clone, Copy)]
+#[derive(Clone, Copy, Debug, PartialEq, Eq, Hash)]
 pub enum Reason {
     CheckMark,
     CheckShape,
@@ -25,13 +26,14 @@ pub enum Reason {
 }
 
 // What a check answers: the index of an accepted fragment, or why it is refused.
-#[derive(Clone, Copy)]
+#[derive(Clone, Copy, Debug, PartialEq, Eq, Hash)]
 pub enum Verdict {
     Accepted(u8),
     Refused(Reason),
 }
 
 // The first reason of document 01's table that applies. No length, byte or number is trusted before it is tested.
+#[tactic(auto, unfolding(crate::specs::Check::checked, crate::specs::Check::conditions, crate::specs::Check::first_answer, crate::specs::Check::size_of, crate::specs::Check::body_of), using(crate::proofs::Shaped::body_lies_within))]
 pub fn check(wanted: u64, check: &[u8], fragment: &[u8]) -> Verdict
     ensures { answer result ≡ checked wanted check.now fragment.now }
 {
@@ -68,6 +70,7 @@ pub fn check(wanted: u64, check: &[u8], fragment: &[u8]) -> Verdict
 }
 
 // The body of an accepted fragment, a part of the lent record; where the check refuses, the empty part at the record's start.
+#[tactic(auto, unfolding(crate::specs::Check::opened, crate::specs::Check::opened_place, crate::specs::Check::body_of), using(crate::proofs::Opening::no_zero, crate::proofs::Opening::body_fits))]
 pub fn open<'a>(wanted: u64, check: &[u8], fragment: &'a [u8]) -> &'a [u8]
     ensures bytes { result.now ≡ opened wanted check.now fragment.now }
     ensures place { (result.ref_ptr.0 ≡ fragment.entry.ref_ptr.0) × (result.ref_ptr.1 ≡ fragment.entry.ref_ptr.1 + opened_place wanted check.now fragment.now) }

@@ -2,3 +2,4 @@ pub mod Layout
 pub mod Records
 pub mod Heads
 pub mod Put
+pub mod Stated

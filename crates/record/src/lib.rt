@@ -9,6 +9,7 @@
 mod places;
 mod read;
 mod shape;
+pub mod stated;
 mod write;
 
 use column::Column;

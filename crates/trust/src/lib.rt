@@ -17,8 +17,7 @@ ghost use Rattle.trust.specs.Numbers.Case.{agree_only};
 /// A fingerprint of a combination is the combination of the fingerprints (theorem 2.11 of document 000).
 pub fn one_block_matches()
     ensures { OneBlockMatches }
-{
-}
+{}
 
 /// Where no padded block has all the bodies, at most F/3 - 1 of the seeds from 0 to 16,777,215 allow any list of m fingerprints, from
 /// any writer, that matches them all.
@@ -26,20 +25,17 @@ pub fn one_block_matches()
 /// Of bodies as in `one_block_matches`. Two polynomials of F/3 coefficients, one for each column, that agree at F/3 seeds are one.
 pub fn few_seeds()
     ensures { FewSeeds }
-{
-}
+{}
 
 /// The bodies 01 02 03 04 05 06 and 01 03 03 05 05 06 have the same fingerprint at seed 256, and at no other.
 ///
 /// They have two columns each, so `few_seeds` would allow one seed; this is that one.
 pub fn one_seed()
     ensures { Holds (agree_only 256 six other) }
-{
-}
+{}
 
 /// Every number of the worked examples holds of the definitions: products and inverses of bytes, coefficients, a square of a column,
 /// fingerprints, the bodies of a block, and what `one_seed` says.
 pub fn cases_hold()
     ensures { All Holds cases }
-{
-}
+{}

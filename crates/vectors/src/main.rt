@@ -4,16 +4,15 @@
 
 mod text;
 
-ghost use Rattle.std.specs.Prelude.{◌≡◌, ◌≤◌, length};
+ghost use Rattle.std.specs.Prelude.{◌≤◌, length};
 
 use std::fs::File;
 use std::io::Read;
-use std::num::wrapping_add_u64;
 use std::{fs, io};
-use text::{line_end, number, starts, unhex};
+use text::{after, number, unhex};
 
-// The case that is being read, and how many were read and agreed.
-#[derive(Clone, Copy)]
+// The length of the case that is being read, and how many cases were read and agreed.
+#[derive(Clone, Copy, Default)]
 struct Tally {
     length: usize,
     agreed: u64,
@@ -23,8 +22,7 @@ struct Tally {
 fn main(rt: HostRuntime) -> io::Result<()> {
     run(&rt, "short", "SHA256ShortMsg.rsp")?;
     run(&rt, "long", "SHA256LongMsg.rsp")?;
-    run(&rt, "edges", "edges.rsp")?;
-    Ok(())
+    run(&rt, "edges", "edges.rsp")
 }
 
 fn run(rt: &HostRuntime, name: &str, path: &str) -> io::Result<()> {
@@ -34,119 +32,64 @@ fn run(rt: &HostRuntime, name: &str, path: &str) -> io::Result<()> {
             return eprintln!(rt; "{path}: {error}");
         }
     };
-    let mut file = room_for_file();
-    let n = read_full(&mut opened, &mut file);
-    drop(opened);
-    let mut message = room_for_message();
-    let tally = read_cases(&file[..n], &mut message);
+    let mut file = [0; 500000];
+    let count = read_full(&mut opened, &mut file);
+    let tally = read_cases(&file[..count]);
     println!(rt; "{name} {} of {}", tally.agreed, tally.cases)
 }
 
-// Reads until `out` is full, the file ends or a read fails, and answers how many bytes were read.
+// Reads until `out` is full, the file ends or a read fails, and answers how many bytes were read. Std's reads of more than one piece
+// would not do: they read on after an interrupted read. Its like in `ball` is of another program: a library of these lines is no plainer.
 fn read_full(file: &mut File, out: &mut [u8]) -> usize
     ensures { result ≤ length out.new }
 {
     let mut done = 0;
     while done < out.len() {
-        let n = file.read(&mut out[done..]).unwrap_or(0);
-        if n == 0 {
-            break;
+        match file.read(&mut out[done..]) {
+            Ok(0) | Err(_) => break,
+            Ok(count) => done += count,
         }
-        done += n;
     }
     done
 }
 
-fn read_cases(file: &[u8], message: &mut [u8]) -> Tally {
-    let mut tally = Tally {
-        length: 0,
-        agreed: 0,
-        cases: 0,
-    };
-    let mut at = 0;
-    while at < file.len() {
-        let rest = &file[at..];
-        let n = line_end(rest);
-        tally = read_line(&rest[..n], message, tally);
-        at += n + 1;
+fn read_cases(file: &[u8]) -> Tally {
+    let mut message = [0; 65538];
+    let mut tally = Tally::default();
+    for line in file.split(|byte| *byte == b'\n') {
+        read_line(line, &mut message, &mut tally);
     }
     tally
 }
 
-// One line of a case: its length in bits, its message, or its digest, which ends it.
-fn read_line(line: &[u8], message: &mut [u8], tally: Tally) -> Tally {
-    let k = starts(line, b"Len = ");
-    if 0 < k {
-        return begin(&line[k..], message, tally);
+// One line of a case: its length in bits, its message, or its digest, which ends it. A message that there is no room for is passed over.
+fn read_line(line: &[u8], message: &mut [u8], tally: &mut Tally) {
+    if let Some(bits) = after(line, b"Len = ") {
+        tally.length = number(bits) / 8;
+        count_up(message);
+    } else if let Some(message) = message.get_mut(..tally.length) {
+        if let Some(digits) = after(line, b"Msg = ") {
+            unhex(digits, message);
+        } else if let Some(digits) = after(line, b"MD = ") {
+            end(digits, message, tally);
+        }
     }
-    let length = tally.length;
-    if message.len() < length {
-        return tally;
-    }
-    let k = starts(line, b"Msg = ");
-    if 0 < k {
-        unhex(&line[k..], &mut message[..length]);
-        return tally;
-    }
-    let k = starts(line, b"MD = ");
-    if 0 < k {
-        return end(&line[k..], &message[..length], tally);
-    }
-    tally
 }
 
-// A case begins. Where it gives no message, its bytes are i mod 251, for i from 0 up to its length.
-fn begin(line: &[u8], message: &mut [u8], tally: Tally) -> Tally {
-    count_up(message);
-    Tally {
-        length: number(line) / 8,
-        agreed: tally.agreed,
-        cases: tally.cases,
+// Where a case gives no message, its bytes are i mod 251, for i from 0 up to its length.
+fn count_up(message: &mut [u8]) {
+    for (i, byte) in message.iter_mut().enumerate() {
+        *byte = (i % 251) as u8;
     }
 }
 
 // A case ends: it is counted, and it agrees where the message has the digest that stands in the line.
-fn end(line: &[u8], message: &[u8], tally: Tally) -> Tally {
-    let cases = wrapping_add_u64(tally.cases, 1);
-    if agrees(message, line) {
-        return Tally {
-            length: 0,
-            agreed: wrapping_add_u64(tally.agreed, 1),
-            cases,
-        };
+fn end(digits: &[u8], message: &[u8], tally: &mut Tally) {
+    let mut wanted = [0; 32];
+    unhex(digits, &mut wanted);
+    if sha256::sha256(message) == Ok(wanted) {
+        tally.agreed = tally.agreed.wrapping_add(1);
     }
-    Tally {
-        length: 0,
-        agreed: tally.agreed,
-        cases,
-    }
-}
-
-fn count_up(message: &mut [u8]) {
-    let mut i = 0;
-    while i < message.len() {
-        message[i] = (i % 251) as u8;
-        i += 1;
-    }
-}
-
-fn agrees(message: &[u8], line: &[u8]) -> bool {
-    let mut wanted = [0u8; 32];
-    unhex(line, &mut wanted);
-    match sha256::sha256(message) {
-        Ok(digest) => check::same(&digest, &wanted),
-        Err(_) => false,
-    }
-}
-
-fn room_for_file() -> [u8; 500000]
-    ensures { 500000 ≡ length result }
-{
-    [0; 500000]
-}
-
-fn room_for_message() -> [u8; 65538]
-    ensures { 65538 ≡ length result }
-{
-    [0; 65538]
+    tally.cases = tally.cases.wrapping_add(1);
+    tally.length = 0;
 }

@@ -1,93 +1,39 @@
 // Reading a line of a file of cases. What is read is compared and counted by the caller, so the contracts say only
 // what keeps it within the text.
-ghost use Rattle.std.specs.Prelude.{◌<◌, ◌≤◌, length};
+ghost use Rattle.std.specs.Prelude.{◌<◌};
 
-// How many bytes word has, where the line starts with it, or 0.
-pub fn starts(line: &[u8], word: &[u8]) -> usize
-    ensures { result ≤ length line.now }
-{
-    let n = word.len();
-    if line.len() < n {
-        return 0;
+// What follows word, where the line starts with it.
+pub fn after<'a>(line: &'a [u8], word: &[u8]) -> Option<&'a [u8]> {
+    if !line.starts_with(word) {
+        return None;
     }
-    if check::same(&line[..n], word) {
-        return n;
-    }
-    0
+    line.get(word.len()..)
 }
 
-// Where the first line of text ends.
-pub fn line_end(text: &[u8]) -> usize
-    ensures { result ≤ length text.now }
-{
-    let mut i = 0;
-    while i < text.len() {
-        if text[i] == b'\n' {
-            return i;
-        }
-        i += 1;
-    }
-    i
-}
-
-// The decimal number that text begins with, or the start of it that passes a million.
+// The decimal number that text begins with, or the most that fits.
 pub fn number(text: &[u8]) -> usize {
-    let mut n: usize = 0;
-    let mut i = 0;
-    while i < text.len() {
-        let d = decimal(text[i]);
-        if 9 < d {
-            return n;
-        }
-        if 1_000_000 < n {
-            return n;
-        }
-        n = n * 10 + d;
-        i += 1;
-    }
-    n
-}
-
-// The value of a decimal digit, or more than 9.
-fn decimal(c: u8) -> usize {
-    if c < b'0' {
-        return 10;
-    }
-    (c - b'0') as usize
+    text.iter()
+        .map_while(|byte| char::from(*byte).to_digit(10))
+        .fold(0, |n: usize, digit| {
+            n.saturating_mul(10).saturating_add(digit as usize)
+        })
 }
 
 // The bytes that the hexadecimal digits at the start of text spell, as many as fill out.
 pub fn unhex(text: &[u8], out: &mut [u8]) {
-    let n = least(text.len() / 2, out.len());
-    let mut i = 0;
-    while i < n {
-        out[i] = hexadecimal(text[2 * i]) * 16 + hexadecimal(text[2 * i + 1]);
-        i += 1;
+    let (pairs, _) = text.as_chunks::<2>();
+    for (byte, [high, low]) in out.iter_mut().zip(pairs) {
+        *byte = hexadecimal(*high) * 16 + hexadecimal(*low);
     }
-}
-
-fn least(a: usize, b: usize) -> usize
-    ensures upper_bound { result ≤ a }
-    ensures upper_bound_2 { result ≤ b }
-{
-    if a < b { a } else { b }
 }
 
 // The value of a hexadecimal digit in lower case, and 0 of any other byte.
-fn hexadecimal(c: u8) -> u8
+fn hexadecimal(digit: u8) -> u8
     ensures { result < 16 }
 {
-    if c < b'0' {
-        return 0;
+    match digit {
+        b'0'..=b'9' => digit - b'0',
+        b'a'..=b'f' => digit - b'a' + 10,
+        _ => 0,
     }
-    if c <= b'9' {
-        return c - b'0';
-    }
-    if c < b'a' {
-        return 0;
-    }
-    if c <= b'f' {
-        return c - b'a' + 10;
-    }
-    0
 }

@@ -9,6 +9,7 @@ pub(crate) fn run(rt: &HostRuntime) -> io::Result<()> {
     version(rt)?;
     length(rt)?;
     counts(rt)?;
+    heads(rt)?;
     block(rt)?;
     number(rt)?;
     wanted(rt)
@@ -76,6 +77,15 @@ fn counts(rt: &HostRuntime) -> io::Result<()> {
                     Check(150, &PRINTS),
                 ],
             ),
+        ],
+    )
+}
+
+// n on both sides of its bound.
+fn heads(rt: &HostRuntime) -> io::Result<()> {
+    told::four(
+        rt,
+        &[
             (
                 "m 2, n 64",
                 &[

@@ -1,7 +1,8 @@
 // A line for each case: what was changed, the number, the value, the bytes opened.
 use crate::input::{Change, Input};
 use crate::records::{CHECK, FRAGMENT, ONE_CHECK, ONE_FRAGMENT};
-use inspect::{Reason, Verdict};
+use inspect::Verdict;
+use refusal::Refusal;
 use std::io;
 
 // What is changed, in words, and the changes in turn.
@@ -23,35 +24,24 @@ fn all(rt: &HostRuntime, check: &[u8], fragment: &[u8], cases: &[Case<'_>]) -> i
         for change in *changes {
             input.change(*change);
         }
-        verdict(rt, what, input.wanted, &input.check, &input.fragment)?;
+        verdict(rt, what, &input)?;
     }
     Ok(())
 }
 
-fn verdict(
-    rt: &HostRuntime,
-    what: &str,
-    wanted: u64,
-    check: &[u8],
-    fragment: &[u8],
-) -> io::Result<()> {
-    let (number, value) = match inspect::check(wanted, check, fragment) {
+fn verdict(rt: &HostRuntime, what: &str, input: &Input) -> io::Result<()> {
+    let Input {
+        wanted,
+        check,
+        fragment,
+    } = input;
+    let (number, value) = match inspect::check(*wanted, check, fragment) {
         Verdict::Accepted(index) => (0, u64::from(index)),
-        Verdict::Refused(reason) => refusal(reason),
+        Verdict::Refused(reason) => {
+            let refusal = Refusal::from(reason);
+            (refusal.number(), refusal.values().0)
+        }
     };
-    let opened = inspect::open(wanted, check, fragment).len();
+    let opened = inspect::open(*wanted, check, fragment).len();
     println!(rt; "{what}: {number} {value} {opened}")
-}
-
-fn refusal(reason: Reason) -> (u32, u64) {
-    match reason {
-        Reason::CheckMark => (5, 0),
-        Reason::CheckShape => (6, 0),
-        Reason::OtherBlock => (7, 0),
-        Reason::FragmentShape => (8, 0),
-        Reason::OtherNumber(found) => (9, found),
-        Reason::NoSuchHead => (10, 0),
-        Reason::Hash => (11, 0),
-        Reason::Fingerprint => (12, 0),
-    }
 }

@@ -20,4 +20,4 @@ returns-then-body-ne0 c =
 pub returns : goal.returns
 returns c =
     done c.args.seed c.args.body.now c.if-body-gt-LONGEST_BODY.false c.if-seed-gt-LARGEST_SEED.false _ _ c.if-body-ne0.false
-    (c.new.ensures ∙ c.from_seed.ensures) c.fingerprint.ensures
+    c.from_seed.ensures c.fingerprint_at.ensures

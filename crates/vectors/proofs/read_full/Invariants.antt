@@ -1,3 +1,4 @@
+-- `vectors::read_full` meets its contract: it stays within `out`, and fills a byte at least in each turn. Assumes nothing.
 use Rattle.std.proofs.Common.{length, ◌-◌, ◌≡◌, ◌≤◌}
 use Rattle.vectors.proofs.read_full.Given as goal
 

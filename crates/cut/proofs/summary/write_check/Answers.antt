@@ -1,11 +1,11 @@
 -- `summary::write_check` meets its contract: the head, the hashes and the fingerprints.
 use mathlib.Core.Path.{ap, ◌∙◌}
 use mathlib.Core.List.{List}
-use Prim.Native.Nat.{ℕ, ◌*◌}
+use Prim.Native.Nat.{ℕ}
 use lib.ListN.{length}
 use native.Mathlib.Omega.{arith}
 use borrow.Rule.Slice.PartMut.{mid_len}
-use Rattle.record.specs.Layout.{written_version, record_length}
+use Rattle.record.specs.Layout.{written_version}
 use Rattle.record.specs.Records.{check_head}
 use Rattle.record.proofs.ReadBack.{check_head_length}
 use Rattle.cut.specs.Cut.{check_of, body_among}
@@ -18,12 +18,8 @@ overflow_cast-size c = omega (arith, c.body_length-size.ensures, body_length_fit
 
 pub write_hashes-requires : goal.write_hashes-requires
 write_hashes-requires c =
-    record {
-      out_len =
-        mid_len c.hash_place-hashes.result c.prints_place-prints.result c.write_check_head.new.out (omega (arith, c.write_check_head.auto.out, c.requires.check_value, c.prints_place-prints.ensures))
-            ∙ omega (arith, c.prints_place-prints.ensures, c.hash_place-hashes.ensures);
-      size_in_bounds = omega (arith, c.requires.fragments_value, ap (λ (F : ℕ). c.args.n * record_length written_version F) c.body_length-size.ensures);
-    }
+    mid_len c.hash_place-hashes.result c.prints_place-prints.result c.write_check_head.new.out (omega (arith, c.write_check_head.auto.out, c.requires.check_value, c.prints_place-prints.ensures))
+    ∙ omega (arith, c.prints_place-prints.ensures, c.hash_place-hashes.ensures)
 
 pub returns : goal.returns
 returns c =

@@ -1,13 +1,11 @@
-use Prim.Native.Nat.{◌≤◌, ◌-◌}
+use mathlib.Core.Path.{◌≡◌}
+use Prim.Native.Nat.{◌*◌}
+use lib.ListN.{take}
 use Rattle.fingerprint.specs.Fingerprint.{fingerprint_at}
 use Rattle.record.specs.Layout.{column_bytes}
 use Rattle.cut.specs.Cut.{body_among}
-use Rattle.cut.proofs.Filling.{Filled}
+use Rattle.algebra.specs.Several.{listed, end_to_end}
 use Rattle.cut.proofs.summary.write_prints.Given as goal
 
 abbrev pub invariant-loop-j : goal.invariant-loop-j
-invariant-loop-j l = (l.j ≤ l.m) × Filled 3 (λ k. column_bytes (fingerprint_at l.y (body_among l.size l.fragments k))) l.j l.initial.out l.out
-
--- proposed from the loop's first test
-abbrev pub decreases-loop-j : goal.decreases-loop-j
-decreases-loop-j l = l.m - l.j
+invariant-loop-j l = take (l.j * 3) l.out ≡ end_to_end (listed l.j (λ k. column_bytes (fingerprint_at l.y (body_among l.size l.fragments k))))

@@ -7,5 +7,5 @@ use Rattle.fingerprint.proofs.SeedTable.fingerprint.Goals as goal
 
 pub returns : goal.returns
 returns c =
-    by_table c.args.self.now.seed _ c.args.self.now.entries _ c.args.body.now c.args.self.now.small (all_small c.args.body.now (λ k. (c.type_inv.body k).fits))
+    by_table c.args.self.now.seed _ c.args.self.now.entries.now _ c.args.body.now c.args.self.now.small (all_small c.args.body.now (λ k. (c.type_inv.body k).fits))
     refl c.args.self.now.of_square c.evaluated.ensures
