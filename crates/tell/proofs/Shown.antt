@@ -41,10 +41,6 @@ fragment_short : (index F : ℕ) (print : Column) → length (fragment_line inde
 unfolding fragment_line line fields hex
 fragment_short index F print = simp length-append (omega (arith, decimal_short index, decimal_short F))
 
-given : (r : Result Column Refusal) {u : Column} → numbers_of r ≡ record { number = 0; column = u } → r ≡ Ok u
-given (Ok u) e = ap (λ (x : Fingerprinted). Ok x.column) e
-given (Err refusal) e = absurd (not_none refusal (ap (λ (x : Fingerprinted). x.number) e))
-
 module _ (F seed : ℕ) (records : List ℕ) where
   lines_suc : (k : ℕ) → fragment_lines (suc k) F seed records ≡ fragment_lines k F seed records ++ fragment_line k F (print_among F seed records k)
   unfolding fragment_lines
@@ -67,29 +63,6 @@ module _ (F seed : ℕ) (records : List ℕ) where
         fragment_short k F (print_among F seed records k),
         lines_short k,
       )
-
-  among_length : (i : ℕ) → i * record_length written_version F + record_length written_version F ≤ length records → length (body_among F records i) ≡ F
-  unfolding body_among
-  among_length i h =
-      length-take-le F (drop (i * record_length written_version F + body_place written_version) records)
-      (omega (arith, length-drop (i * record_length written_version F + body_place written_version) records))
-
-  -- the fingerprint of a body is not refused
-  pub print_is : (i : ℕ) (body : List ℕ) (r : Result Column Refusal) → i * record_length written_version F + record_length written_version F ≤ length records
-      → (F ≤ longest_body) × (F % 3 ≡ 0) × (seed ≤ largest_seed) → body ≡ body_among F records i → numbers_of r ≡ fingerprinted seed body
-      → r ≡ Ok (print_among F seed records i)
-  unfolding fingerprinted print_among
-  print_is i body r within known eb e =
-      given r
-      (e ∙ ap (fingerprinted seed) eb
-      ∙ simp (le-ltb longest_body (length (body_among F records i)) (omega (arith, long, known.0)), le-ltb largest_seed seed known.2, eq-eqb (length (body_among F records i) % 3) 0 (ap (λ (k : ℕ). k % 3) long ∙ known.1)))
-    where
-      long : length (body_among F records i) ≡ F
-      long = among_length i within
-
-pub columns_whole : (L m : ℕ) → body_length L m % 3 ≡ 0
-unfolding body_length
-columns_whole L m = mul-mod_right 3 ((L + (3 * m - 1)) / (3 * m))
 
 -- the three parts, with the places that the code computes
 pub shown_is : (m n seed number L : ℕ) (check records : List ℕ) (h : CheckHead) (size left whole : ℕ) → h ≡ check_head_of check → size ≡ body_length L m

@@ -11,10 +11,6 @@ use Rattle.cut.specs.Cut.{body_among}
 use Rattle.join.specs.Join.{join_answer}
 use Rattle.tell.specs.Lines.{check_line, fragment_line, join_line}
 
--- a text with these bytes from a place on, and all else as it was
-unfoldable pub placed : List ℕ → ℕ → List ℕ → List ℕ
-placed text at bytes = take at text ++ (bytes ++ drop (at + length bytes) text)
-
 -- the fingerprint of the body of record i
 unfoldable pub print_among : ℕ → ℕ → List ℕ → ℕ → Column
 print_among F seed records i = fingerprint_at (from_seed seed) (body_among F records i)

@@ -1,7 +1,6 @@
 // What is told of a cut: its check record, its fragments, and a join from the last m of them.
 ghost use Rattle.std.specs.Prelude.{◌≡◌, ◌++◌, [], ◌+◌, ◌*◌, ◌%◌, ◌≤◌};
 ghost use lib.ListN.{length};
-ghost use Rattle.limits.specs.Limits.{longest_body, largest_seed};
 ghost use Rattle.code.specs.Cutting as cutting;
 ghost use Rattle.record.specs.Layout as layout;
 ghost use Rattle.tell.specs.Parts as parts;
@@ -10,25 +9,17 @@ use crate::asked::Asked;
 use crate::lines::{add_check, add_fragment, add_join};
 use crate::text::Text;
 use column::Column;
+use fingerprint::SeedTable;
 
-// The fingerprint of the body of record `index`, where it stands; at this size and seed it is never refused.
-fn print_among(size: u32, seed: u32, fragments: &[u8], index: u8) -> Column
-    requires size_le_longest_body { (size ≤ longest_body) × (size % 3 ≡ 0) × (seed ≤ largest_seed) }
-    requires size_in_bounds { index * layout.record_length layout.written_version size + layout.record_length layout.written_version size ≤ length fragments.now }
-    ensures { result ≡ parts.print_among size seed fragments.now index }
-{
-    fingerprint::fingerprint(seed, cut::body_among(size, fragments, index)).unwrap()
-}
-
-// A line for each of n records.
+// A line for each of n records, with one table for all their fingerprints.
 fn add_fragments(text: &mut Text, n: u8, size: u32, seed: u32, fragments: &[u8])
-    requires n_in_bounds { length text.old.items + 53 * n ≤ 16384 }
-    requires size_le_longest_body { (size ≤ longest_body) × (size % 3 ≡ 0) × (seed ≤ largest_seed) }
-    requires fragments_len { length fragments.now ≡ n * layout.record_length layout.written_version size }
+    requires { length text.old.items + 53 * n ≤ 16384 }
     ensures { text.new.items ≡ text.old.items ++ parts.fragment_lines n size seed fragments.now }
 {
+    let table = SeedTable::new(Column::from_seed(seed));
     for index in 0..n {
-        add_fragment(text, index, size, print_among(size, seed, fragments, index));
+        let print = table.fingerprint(cut::body_among(size, fragments, index));
+        add_fragment(text, index, size, print);
     }
 }
 
@@ -45,7 +36,7 @@ fn add_answer(text: &mut Text, number: u64, length: usize, check: &[u8], records
 // All lines.
 pub(crate) fn add_all(text: &mut Text, asked: Asked<'_>, check: &[u8], fragments: &[u8])
     requires empty { text.old.items ≡ [] }
-    requires m_le_n { (asked.m ≤ asked.n) × (asked.seed ≤ largest_seed) }
+    requires m_le_n { asked.m ≤ asked.n }
     requires fragments_value { length fragments.now ≡ asked.n * layout.record_length layout.written_version (cutting.body_length (length asked.block.now) asked.m) }
     ensures { let a = asked.entry in text.new.items ≡ parts.shown a.m a.n a.seed a.number (length a.block.now) check.now fragments.now }
 {

@@ -2,17 +2,14 @@
 use Rattle.std.proofs.Common.{◌≡◌, ℕ, ◌*◌, ◌-◌, ◌%◌, ap, sym, ◌∙◌, length, arith, append_assoc}
 use Rattle.std.proofs.lemmas.Grind.{common_steps}
 use Rattle.tell.proofs.Room.{body_short}
-use Rattle.tell.proofs.Shown.{columns_whole, check_short, lines_short, shown_is}
+use Rattle.tell.proofs.Shown.{check_short, lines_short, shown_is}
 use Rattle.tell.proofs.records.add_all.Goals as goal
 
 pub overflow_cast-size : goal.overflow_cast-size
 overflow_cast-size c = omega (arith, c.body_length-size.ensures, body_short (length c.args.asked.block.now) c.args.asked.m c.args.asked.short)
 
-pub add_fragments-requires-clause-n_in_bounds : goal.add_fragments-requires-clause-n_in_bounds
-add_fragments-requires-clause-n_in_bounds c = grind (arith, common_steps, check_short)
-
-pub add_fragments-requires-clause-size_le_longest_body : goal.add_fragments-requires-clause-size_le_longest_body
-add_fragments-requires-clause-size_le_longest_body c = (omega (arith, c.body_length-size.ensures, body_short (length c.args.asked.block.now) c.args.asked.m c.args.asked.short), ap (λ (k : ℕ). k % 3) c.body_length-size.ensures ∙ columns_whole _ _, c.requires.m_le_n.1)
+pub add_fragments-requires : goal.add_fragments-requires
+add_fragments-requires c = grind (arith, common_steps, check_short)
 
 pub add_answer-requires : goal.add_answer-requires
 add_answer-requires c = grind (arith, common_steps, check_short, lines_short)
