@@ -16,7 +16,7 @@ pub fn each_spread(points: &[u8], out: &mut [u8])
     }
 }
 
-// The weight of each point at t, from the points' spreads.
+// The weight of each point at t, from the points' spreads. The loop is written twice, here and above, since all that it does is one call.
 pub fn each_share(points: &[u8], spreads: &[u8], t: u8, out: &mut [u8])
     ensures { out.new ≡ shares.overlaid (shares.shares points.now spreads.now t) out.old }
 {

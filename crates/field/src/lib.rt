@@ -44,7 +44,7 @@ pub fn inverse(a: u8) -> u8
     powers.at(255 - places.of(a))
 }
 
-// a times the inverse of b, so 0 where b is 0.
+// a times the inverse of b, so 0 where b is 0. Not by `times` and `inverse`, which would read each table twice.
 pub fn quotient(a: u8, b: u8) -> u8
     ensures { result ≡ byte.times a (byte.inverse b) }
 {

@@ -18,7 +18,8 @@ pub fn nodal(points: &[u8], t: u8) -> u8
     settled(product)
 }
 
-// The product of t + q over the points q that are not p.
+// The product of t + q over the points q that are not p. Beside `nodal`: one body for both would have to carry an Option of the point
+// that is left out, and look at it in every turn.
 pub fn spread_but(points: &[u8], p: u8, t: u8) -> u8
     ensures { result ≡ polynomial.spread_but byte.bytes points.now p t }
 {
