@@ -1,4 +1,4 @@
-pub mod Accepted
-pub mod Padded
-pub mod Joined
-pub mod Demand
+mod Accepted
+mod Padded
+mod Joined
+mod Demand

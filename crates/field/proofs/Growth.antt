@@ -10,7 +10,7 @@ use Rattle.std.specs.Prelude.{Option, Some, None}
 use Rattle.algebra.specs.Polynomial.{nodal, spread_but}
 use Rattle.algebra.proofs.Several.{dropped}
 use Rattle.algebra.proofs.Lagrange.{but_same, but_other}
-use Rattle.field.specs.Byte.{plus, times, power, Powers, at_place, product_at, bytes}
+use Rattle.field.specs.Byte.{plus, times, power, at_place, product_at, bytes}
 use Rattle.field.proofs.Product.{none_times, times_none}
 use Rattle.field.proofs.Laws.{times_unit}
 use Rattle.field.proofs.Power.{power_lt, power_add, power_back}
@@ -35,11 +35,6 @@ with_place = at_power
 pub without : product_at None ≡ 0
 unfolding product_at
 without = at_zero 255 refl
-
--- what is read in a table of powers at its place
-pub look_place : (t : List ℕ) → Powers t → (product : Option ℕ) (k : ℕ) → product ≡ Some k → k < 255 → get_or t k 0 ≡ product_at product
-unfolding Powers
-look_place t rule product k e h = rule k (omega arith) ∙ sym (ap product_at e ∙ with_place k h)
 
 module _ (product : Option ℕ) (factor : ℕ) where
   -- a product with 00 before, or by 00

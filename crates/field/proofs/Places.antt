@@ -57,7 +57,7 @@ unfolding near
 place_lt a h = ltb→lt (get_or places a 0) 255 (at 256 near near_all a h)
 
 pub place_at : (a : ℕ) → a < 256 → a ≢ 0 → power 3 (get_or places a 0) ≡ a
-unfolding right Powers
+unfolding right
 place_at zero h n = absurd (n refl)
 place_at (suc a) h n =
     let near : get_or places (suc a) 0 < 510 = omega (arith, place_lt (suc a) h) in
@@ -65,12 +65,10 @@ place_at (suc a) h n =
     ∙ eqb→eq (get_or table (get_or places (suc a) 0) 0) (suc a) (at 255 right right_all a (omega arith))
 
 pub places_rule : Places places
-unfolding Places
 places_rule a h = (place_lt a h, place_at a h)
 
 -- what is read at a in a table with the rule
 pub place_read : (t : List ℕ) → Places t → (a i r : ℕ) → a < 256 → i ≡ a → r ≡ get_or t i 0 → (r < 255) × (a ≢ 0 → power 3 r ≡ a)
-unfolding Places
 place_read t rule a i r h e read =
     let at_a : r ≡ get_or t a 0 = read ∙ ap (λ (x : ℕ). get_or t x 0) e in
     (omega (arith, (rule a h).0), λ some. ap (power 3) at_a ∙ (rule a h).1 some)

@@ -45,7 +45,7 @@ follows_at i (suc k) (x ∷ xs) test h =
 
 -- a table of 510 entries that passes the test has the rule
 pub tested : (t : List ℕ) → T (both (eqb (length t) 510) (follows 1 t)) → Powers t
-unfolding Powers power
+unfolding power
 tested t test k h =
     let long = eqb→eq (length t) 510 (both_left (eqb (length t) 510) (follows 1 t) test) in
     follows_at 0 k t (both_right (eqb (length t) 510) (follows 1 t) test) (omega (arith, long)) ∙ ap (power 3) (zero-add k)

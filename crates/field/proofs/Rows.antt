@@ -9,10 +9,10 @@ use native.Mathlib.Decide.{ℕ_discrete}
 use native.Mathlib.Omega.{arith}
 use lib.ListN.{length, get_or, set, replicate, length-append, length-set, get_or-append}
 use lib.Seq.{get_or_at, get_or-set_same, get_or-set_other, ext_get_or}
-use Rattle.field.specs.Byte.{plus, xtime, product, times, power, Powers, products_below, products}
+use Rattle.field.specs.Byte.{plus, xtime, product, times, power, products_below, products}
 use Rattle.field.proofs.Product.{times_none}
 use Rattle.field.proofs.Power.{power_lt}
-use Rattle.field.proofs.Lookups.{look_times}
+use Rattle.field.proofs.Lookups.{power_times}
 use Rattle.field.proofs.Places.{places, place_lt, place_at}
 
 -- the row's definition: its length, and its entries
@@ -76,13 +76,10 @@ fill a n out f =
     earlier : (j : ℕ) → j < n + 1 → power 3 j ≢ power 3 n → j < n
     earlier j h other = let differs : j ≢ n = λ e. other (ap (power 3) e) in omega arith
 
--- one turn of the loop: the place x is read in a table of powers, and so is what is put there
-pub fill_read : (a n at x : ℕ) (out t : List ℕ) → Powers t → at + n < 510 → power 3 at ≡ a → x ≡ get_or t n 0 → Filled a n out
-    → Filled a (n + 1) (set out x (get_or t (at + n) 0))
-unfolding Powers
-fill_read a n at x out t rule h e ex f =
-    subst₂ (λ (y v : ℕ). Filled a (n + 1) (set out y v))
-    (sym (ex ∙ rule n (omega arith))) (sym (look_times t rule a (power 3 n) at n h e refl)) (fill a n out f)
+-- one turn of the loop: the product v is put at the place x
+pub fill_read : (a n at x v : ℕ) (out : List ℕ) → power 3 at ≡ a → x ≡ power 3 n → v ≡ power 3 (at + n) → Filled a n out → Filled a (n + 1) (set out x v)
+fill_read a n at x v out e ex ev f =
+    subst₂ (λ (y w : ℕ). Filled a (n + 1) (set out y w)) (sym ex) (sym (ev ∙ power_times a (power 3 n) at n e refl)) (fill a n out f)
 
 -- once the 255 powers are through, every byte was reached
 pub filled : (a n : ℕ) (out : List ℕ) → 255 ≤ n → Filled a n out → out ≡ products a

@@ -26,11 +26,11 @@ power a zero = 1
 power a (suc k) = times (power a k) a
 
 -- what document 01 asks of its table of powers: "entry k is 03 to the power k, k from 0 to 509"
-unfoldable pub Powers : List ℕ → Type 0
+abbrev pub Powers : List ℕ → Type 0
 Powers t = (k : ℕ) → k < 510 → get_or t k 0 ≡ power 3 k
 
 -- the place of each byte but {00} among the first 255 powers of 03
-unfoldable pub Places : List ℕ → Type 0
+abbrev pub Places : List ℕ → Type 0
 Places t = (a : ℕ) → a < 256 → (get_or t a 0 < 255) × (a ≢ 0 → power 3 (get_or t a 0) ≡ a)
 
 -- the byte at a place; 255 stands for {00}, which has none

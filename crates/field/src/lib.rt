@@ -13,7 +13,7 @@ ghost use Rattle.field.specs.Byte as byte;
 
 pub use adding::add_products;
 pub use many::{nodal, spread_but};
-use tables::{place, places, powers};
+use tables::{places, powers};
 
 pub fn plus(a: u8, b: u8) -> u8
     ensures { result ≡ byte.plus a b }
@@ -24,15 +24,12 @@ pub fn plus(a: u8, b: u8) -> u8
 pub fn times(a: u8, b: u8) -> u8
     ensures { result ≡ byte.times a b }
 {
-    if a == 0 {
+    if a == 0 || b == 0 {
         return 0;
     }
-    if b == 0 {
-        return 0;
-    }
-    let table = powers();
-    let at = places();
-    table[place(&at, a) + place(&at, b)]
+    let powers = powers();
+    let places = places();
+    powers.at(places.of(a) + places.of(b))
 }
 
 // 0 for 0.
@@ -42,24 +39,21 @@ pub fn inverse(a: u8) -> u8
     if a == 0 {
         return 0;
     }
-    let table = powers();
-    let at = places();
-    table[255 - place(&at, a)]
+    let powers = powers();
+    let places = places();
+    powers.at(255 - places.of(a))
 }
 
 // a times the inverse of b, so 0 where b is 0.
 pub fn quotient(a: u8, b: u8) -> u8
     ensures { result ≡ byte.times a (byte.inverse b) }
 {
-    if a == 0 {
+    if a == 0 || b == 0 {
         return 0;
     }
-    if b == 0 {
-        return 0;
-    }
-    let table = powers();
-    let at = places();
-    table[place(&at, a) + (255 - place(&at, b))]
+    let powers = powers();
+    let places = places();
+    powers.at(places.of(a) + (255 - places.of(b)))
 }
 
 // Entry x is the product of `by` and x: one lookup for each product by the same byte.
@@ -70,11 +64,10 @@ pub fn row(by: u8) -> [u8; 256]
     if by == 0 {
         return out;
     }
-    let places = places();
-    let at = place(&places, by);
-    let table = powers();
+    let powers = powers();
+    let at = places().of(by);
     for k in 0..255 {
-        out[usize::from(table[k])] = table[at + k];
+        out[usize::from(powers.at(k))] = powers.at(at + k);
     }
     out
 }

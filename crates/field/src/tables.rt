@@ -1,27 +1,47 @@
-// The table of the powers of 03, and the place of each byte in it. Each table is read by one function, so that its rule is proved once.
-// Reading it is copying it, so a function of many products reads it once.
+// The table of the powers of 03, and the place of each byte in it: each of a type that has the table's rule, which is proved once, where
+// the constant is read. Reading it is copying it, so a function of many products reads it once.
 ghost use Rattle.std.specs.Prelude.{◌≡◌, ◌≢◌, ◌<◌};
 ghost use Rattle.field.specs.Byte as byte;
 
-// The one reader of POWERS: whoever has the array has its rule.
-pub(crate) fn powers() -> [u8; 510]
-    ensures { byte.Powers result }
-{
-    POWERS
+#[derive(Drop)]
+pub(crate) struct PowerTable {
+    entries: [u8; 510],
+    ghost rule: { byte.Powers entries },
 }
 
-// The one reader of PLACES: whoever has the array has its rule. The place of 0 says nothing.
-pub(crate) fn places() -> [u8; 256]
-    ensures { byte.Places result }
-{
-    PLACES
+#[derive(Drop)]
+pub(crate) struct PlaceTable {
+    entries: [u8; 256],
+    ghost rule: { byte.Places entries },
 }
 
-pub(crate) fn place(places: &[u8; 256], a: u8) -> usize
-    requires { byte.Places places.now }
-    ensures { (result < 255) × (a ≢ 0 → byte.power 3 result ≡ a) }
-{
-    usize::from(places[usize::from(a)])
+// The one reader of POWERS.
+pub(crate) fn powers() -> PowerTable {
+    PowerTable { entries: POWERS }
+}
+
+// The one reader of PLACES.
+pub(crate) fn places() -> PlaceTable {
+    PlaceTable { entries: PLACES }
+}
+
+impl PowerTable {
+    // 03 to the power k.
+    pub(crate) fn at(&self, k: usize) -> u8
+        requires { k < 510 }
+        ensures { result ≡ byte.power 3 k }
+    {
+        self.entries[k]
+    }
+}
+
+impl PlaceTable {
+    // The place of a byte. That of 0 says nothing.
+    pub(crate) fn of(&self, a: u8) -> usize
+        ensures { (result < 255) × (a ≢ 0 → byte.power 3 result ≡ a) }
+    {
+        usize::from(self.entries[usize::from(a)])
+    }
 }
 
 // Entry k is 03 to the power k. The powers repeat from entry 255 on, so that the sum of two places is a place. A line has 32 entries:

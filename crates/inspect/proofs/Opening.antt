@@ -1,20 +1,16 @@
--- What is opened after an accepting verdict and after a refusing one, and where it lies.
-use mathlib.Core.Path.{◌≡◌, refl, sym, ap, ◌∙◌}
+-- What is opened after an accepting verdict and after a refusing one: the number 0 tells them apart, and an accepted fragment has a body.
+use mathlib.Core.Path.{◌≡◌, refl}
 use mathlib.Core.Bool.{false}
-use mathlib.Core.List.{List, []}
-use Prim.Native.Nat.{ℕ, ◌-◌, ◌≤◌}
+use mathlib.Core.List.{List}
+use Prim.Native.Nat.{ℕ, ◌≤◌}
 use lib.Dec.{eqb}
-use lib.ListN.{length, take, drop}
-use borrow.Author.Rules.{part_to_end}
-use Rattle.record.specs.declared.CheckHead.{CheckHead}
+use lib.ListN.{length}
 use Rattle.record.specs.Layout.{body_place}
 use Rattle.record.specs.Heads.{check_head_of}
 use Rattle.inspect.specs.declared.Reason.{Reason}
 use Rattle.inspect.specs.declared.Reason.TheVariants.{CheckMark, CheckShape, OtherBlock, FragmentShape, OtherNumber, NoSuchHead, Hash, Fingerprint}
-use Rattle.inspect.specs.declared.Verdict.{Verdict}
-use Rattle.inspect.specs.declared.Verdict.TheVariants.{Accepted, Refused}
-use Rattle.inspect.specs.Answer.{Answer, reason_answer, answer}
-use Rattle.inspect.specs.Check.{body_of, checked, opened, opened_place}
+use Rattle.inspect.specs.Answer.{reason_answer}
+use Rattle.inspect.specs.Check.{checked}
 use Rattle.inspect.proofs.Shaped.{body_within}
 use Rattle.inspect.proofs.Called.{fragment_fits}
 

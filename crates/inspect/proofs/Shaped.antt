@@ -1,16 +1,13 @@
 -- What is known of a check record and of a fragment record that passed the tests of 6 and 8: how long they are, and what lies within.
-use mathlib.Core.Path.{◌≡◌, refl, sym, ap, subst, ◌∙◌}
+use mathlib.Core.Path.{◌≡◌, refl, sym, ap, ◌∙◌}
 use mathlib.Core.Bool.{Bool, true, false, ◌&&◌, false≢true}
 use mathlib.Core.List.{List}
-use Prim.Native.Nat.{ℕ, ◌+◌, ◌*◌, ◌-◌, ◌<◌, ◌≤◌}
+use Prim.Native.Nat.{ℕ, ◌+◌, ◌*◌, ◌<◌, ◌≤◌}
 use native.Mathlib.Omega.{arith}
 use lib.Dec.{eqb, leb}
-use lib.ListN.{length, take, drop, length-drop}
-use borrow.Author.Tests.{eqb-true, leb-true}
-use borrow.Author.Rules.{part_to_end}
-use Rattle.limits.specs.Limits.{longest_block, longest_body}
-use Rattle.code.specs.Cutting.{body_length}
-use Rattle.code.proofs.Longest.{body_length_fits}
+use lib.ListN.{length}
+use borrow.Author.Tests.{eqb-true}
+use Rattle.limits.specs.Limits.{longest_block}
 use Rattle.record.specs.declared.CheckHead.{CheckHead}
 use Rattle.record.specs.declared.FragmentHead.{FragmentHead}
 use Rattle.record.specs.Layout.{fragment_mark, hashes_place, prints_place, check_length, body_place, record_length}
@@ -62,6 +59,15 @@ module _ (version F : ℕ) (fragment : List ℕ) (shaped : fragment_shaped versi
   module _ (at : ℕ) (ea : at ≡ body_place version) where
     pub body_within : at ≤ length fragment
     body_within = omega (arith, whole)
+
+-- the same for a tactic, which finds the head that was read
+pub hash_fits : (check : List ℕ) (h : CheckHead) (i : ℕ) → h ≡ check_head_of check → check_shaped check ≡ true → i < h.n
+    → hashes_place h.version + 32 * i + 32 ≤ length check
+hash_fits check h i eh shaped b = hash_within check shaped h eh i _ b refl
+
+pub prints_fit : (check : List ℕ) (h : CheckHead) → h ≡ check_head_of check → check_shaped check ≡ true
+    → prints_place h.version h.n ≤ length check
+prints_fit check h eh shaped = prints_within check shaped h eh _ refl
 
 -- the same of the place as it is defined
 pub body_lies_within : (version F : ℕ) (fragment : List ℕ) → fragment_shaped version F fragment ≡ true → body_place version ≤ length fragment

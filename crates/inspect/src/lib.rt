@@ -12,7 +12,7 @@ ghost use Rattle.inspect.specs.Check.{checked, opened, opened_place};
 
 use agree::{hash_agrees, print_agrees};
 
-// Why a fragment is refused, in document 01's order.
+// Why a fragment is refused, in document 01's order. An enum of its own, and within the verdict: document 01's list of forms names both.
 #[derive(Clone, Copy, Debug, PartialEq, Eq, Hash)]
 pub enum Reason {
     CheckMark,
@@ -33,6 +33,7 @@ pub enum Verdict {
 }
 
 // The first reason of document 01's table that applies. No length, byte or number is trusted before it is tested.
+// The tests give no value, so a `Result` with `?` inside would be no plainer than these returns, and a `match` longer.
 #[tactic(auto, unfolding(crate::specs::Check::checked, crate::specs::Check::conditions, crate::specs::Check::first_answer, crate::specs::Check::size_of, crate::specs::Check::body_of), using(crate::proofs::Shaped::body_lies_within))]
 pub fn check(wanted: u64, check: &[u8], fragment: &[u8]) -> Verdict
     ensures { answer result ≡ checked wanted check.now fragment.now }

@@ -1,12 +1,11 @@
 -- What a join answers and leaves in the output: each way out, from the tests that led there.
-use mathlib.Core.Path.{◌≡◌, refl, sym, ap, ap₂, subst, subst₂, ◌∙◌}
+use mathlib.Core.Path.{◌≡◌, refl, sym, ap, subst, subst₂, ◌∙◌}
 use mathlib.Core.Bool.{Bool, true, false, cond}
 use mathlib.Core.List.{List, map}
 use Prim.Native.Nat.{ℕ, ◌+◌, ◌-◌, ◌*◌, ◌<◌, ◌≤◌}
 use native.Mathlib.Omega.{arith}
 use lib.Dec.{eqb, leb}
 use lib.ListN.{length, take, drop, length-map}
-use lib.Seq.{take_at}
 use borrow.Author.Tests.{eq-eqb, ne_eqb, leb-true, eqb-true}
 use Rattle.std.specs.Prelude.{Err}
 use Rattle.limits.specs.Limits.{most_fragments, longest_block}

@@ -1,20 +1,17 @@
 -- Parts of the padded block: the weights from the shares, the runs of one body, and the look at the fill.
-use mathlib.Core.Path.{◌≡◌, refl, sym, ap, ap₂, ◌∙◌}
-use mathlib.Core.Bool.{Bool, true, false, ◌&&◌, cond}
-use mathlib.Core.List.{List, [], ◌∷◌, ◌++◌, map}
-use Prim.Native.Nat.{ℕ, zero, suc, ◌+◌, ◌-◌, ◌*◌, ◌/◌, ◌%◌, ◌<◌, ◌≤◌}
-use native.Mathlib.Nat.{not-suc-le-zero, le_of_suc-le-suc, add_assoc, mod-eq_of_lt, div-eq_of_lt, div-add-mod', mul-add-div_right, mul-add-mod_self_right, add-zero, zero-add}
+use mathlib.Core.Path.{◌≡◌, sym, ap, ap₂, ◌∙◌}
+use mathlib.Core.List.{List, ◌++◌, map}
+use Prim.Native.Nat.{ℕ, ◌+◌, ◌-◌, ◌*◌, ◌/◌, ◌%◌, ◌<◌, ◌≤◌}
+use native.Mathlib.Nat.{add_assoc, mod-eq_of_lt, div-eq_of_lt, div-add-mod', mul-add-div_right, mul-add-mod_self_right, add-zero}
 use native.Mathlib.Decide.{dec_lt}
 use native.Mathlib.Omega.{arith}
-use lib.Dec.{eqb}
 use lib.ListN.{length, get_or, take, drop, length-map, get_or-append}
-use lib.Seq.{drop-length, get_or-take, get_or-append-add, length-take-le}
-use borrow.Author.Tests.{eq-eqb, ne_eqb}
+use lib.Seq.{get_or-take, get_or-append-add, length-take-le}
 use borrow.Rule.Slice.PartMut.{mid_of, put_mid, same_len_mid, mid_len}
 use Rattle.algebra.specs.Several.{listed, All, Distinct}
 use Rattle.algebra.specs.Polynomial.{weight}
 use Rattle.algebra.specs.Combination.{combined, itself}
-use Rattle.algebra.proofs.Several.{listed_length, listed_at, listed_same}
+use Rattle.algebra.proofs.Several.{listed_length, listed_at}
 use Rattle.field.specs.Byte.{bytes, inverse}
 use Rattle.code.specs.Weights.{spread}
 use Rattle.code.specs.Shares.{shares, overlaid}
@@ -22,8 +19,7 @@ pub use Rattle.code.proofs.AtOnce.{spread_all}
 use Rattle.code.proofs.Plain.{Small}
 use Rattle.code.proofs.Shares.{shares_weights}
 use Rattle.code.proofs.Overlays.{over_all}
-use Rattle.code.proofs.Walks.{Listed, dropped}
-use Rattle.join.specs.Join.{all_zero}
+use Rattle.code.proofs.Walks.{Listed}
 use Rattle.join.specs.Parts.{mixed, block_byte}
 
 -- the shares of different indexes, where there is room for all of them
@@ -108,9 +104,3 @@ run_more indexes places records stride size first n done step out part some few 
     at j h =
         ap (λ (l : List ℕ). get_or l j 0) e ∙ listed_at _ _ 0 j (omega (arith, count))
         ∙ run_byte indexes places records stride size first done j some (omega arith)
-
--- from the start of the block
-pub block_start : (indexes places records : List ℕ) (stride size n : ℕ) (out : List ℕ) → out ≡ listed n (λ k. block_byte indexes places records stride size (0 + k))
-    → out ≡ listed n (block_byte indexes places records stride size)
-block_start indexes places records stride size n out e =
-    e ∙ listed_same n _ _ (λ k h. ap (block_byte indexes places records stride size) (zero-add k))

@@ -20,6 +20,7 @@ fn write_run(out: &mut [u8], sources: Sources<'_>, t: u8, at: usize)
 }
 
 // The bytes of the padded block from `first` on, body by body.
+#[tactic(auto, using(code::proofs::Walks::listed_all))]
 fn write_part(out: &mut [u8], sources: Sources<'_>, first: usize, size: usize)
     requires size_le_stride { (size ≤ sources.stride) × ((first + length out.old ≤ length sources.indexes.now * size) × (length sources.indexes.now * size < 2 ^ 64)) }
     ensures { let s = sources.entry in out.new ≡ listed (length out.old) (λ k. block_byte s.indexes.now s.places.now s.records.now s.stride size (first + k)) }

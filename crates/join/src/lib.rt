@@ -25,7 +25,10 @@ pub fn join(wanted: u64, check: &[u8], records: &[u8], out: &mut [u8]) -> Result
     let held = gather::gather(wanted, check, records);
     let used = held.used.as_slice();
     let count = used.len();
-    let counts = Counts { read: held.read as u64, indexes: count as u64 };
+    let counts = Counts {
+        read: held.read as u64,
+        indexes: count as u64,
+    };
     let head = record::read_check(check);
     if count != head.m as usize {
         return Err(Refusal::TooFew(counts));

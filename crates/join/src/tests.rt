@@ -27,11 +27,13 @@ pub(crate) fn test(wanted: u64, check: &[u8], records: &[u8], out: &[u8]) -> Res
 }
 
 // 4 is given unless this holds.
+#[tactic(auto, unfolding(crate::specs::Join::lengths_fit, gather::specs::Gather::count_of), using(gather::proofs::Places::some_stride))]
 fn lengths_fit(check: &[u8], records: &[u8], out: &[u8]) -> bool
     ensures { result ≡ joining.lengths_fit check.now records.now out.now }
 {
     let head = record::read_check(check);
     let stride = gather::stride(check);
-    (out.len() == head.length as usize)
-        & ((records.len() % stride == 0) & (records.len() / stride <= head.n as usize))
+    out.len() == head.length as usize
+        && records.len() % stride == 0
+        && records.len() / stride <= head.n as usize
 }

@@ -1,4 +1,4 @@
--- Writing at the start of a buffer: the copy byte by byte, and one thing written behind another.
+-- Writing at the start of a buffer, where it fits, and at the start of the part from a place on.
 use mathlib.Core.Path.{◌≡◌, ap, ◌∙◌}
 use mathlib.Core.List.{List, ◌++◌, append-nil}
 use Prim.Native.Nat.{ℕ, ◌-◌, ◌≤◌}

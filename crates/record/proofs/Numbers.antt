@@ -1,4 +1,4 @@
--- Big-endian numbers of any count of bytes: what is read is small enough, and what was written is read back.
+-- Big-endian numbers of any count of bytes: what was written is read back.
 use mathlib.Core.Path.{◌≡◌, refl, sym, ap, ap₂, ◌∙◌}
 use mathlib.Core.List.{List, [], ◌∷◌, ◌++◌, append_assoc}
 use Prim.Native.Nat.{ℕ, zero, suc, ◌+◌, ◌*◌, ◌/◌, ◌%◌, ◌^◌, ◌<◌}

@@ -35,7 +35,7 @@ const HASH_BYTES: usize = 32;
 
 const PRINT_BYTES: usize = 3;
 
-// The versions that are read.
+// The versions that are read. A u16 and no enum: the public places below answer for every u16, and an enum of the one known is no plainer.
 pub(crate) fn known(version: u16) -> bool
     ensures { result ≡ layout.known version }
 {
@@ -84,5 +84,5 @@ pub fn body_place(version: u16) -> usize
 pub fn record_length(version: u16, size: u32) -> usize
     ensures { result ≡ layout.record_length version size }
 {
-    body_place(version) + (size as usize)
+    body_place(version) + size as usize
 }

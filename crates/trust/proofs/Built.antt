@@ -1,11 +1,12 @@
 -- The block that m of the bodies fix: byte by byte, what the points say of each place.
 use mathlib.Core.Path.{◌≡◌, refl, sym, ap, ap₂, ◌∙◌}
-use mathlib.Core.List.{List, [], ◌∷◌, map}
+use mathlib.Core.List.{List, map}
 use Prim.Native.Nat.{ℕ, zero, suc, ◌+◌, ◌*◌, ◌/◌, ◌%◌, ◌<◌, ◌≤◌}
 use native.Mathlib.Nat.{lt_of_lt_of_le, mod-lt}
 use native.Mathlib.Omega.{arith}
 use lib.Dec.{lit<}
 use lib.ListN.{get_or}
+use Rattle.std.proofs.lemmas.List.{map-id}
 use lib.Arith.{digits_div, digits_mod, digits_lt}
 use Rattle.algebra.specs.Several.{All, Distinct}
 use Rattle.algebra.specs.Combination.{combined, itself}
@@ -39,15 +40,11 @@ part zero u = u.a
 part (suc zero) u = u.b
 part (suc (suc r)) u = u.c
 
-map_id : {A : Type 0} (l : List A) → map (λ a. a) l ≡ l
-map_id [] = refl
-map_id (a ∷ l) = ap (λ (r : List _). a ∷ r) (map_id l)
-
 -- each byte of what is said of columns is what is said of their bytes
 pub part_said : (r : ℕ) (qs : List Byte) (t : Byte) (f : Byte → Triple Byte) → part r (said_columns qs t f) ≡ said qs t (λ q. part r (f q))
 part_said r qs t f =
     combined_carried (triple_space field) (itself field) (λ k. k) (part r) (carries r) _ _
-    ∙ ap₂ (combined (itself field)) (map_id _) (map_map (part r) f qs)
+    ∙ ap₂ (combined (itself field)) (map-id _) (map_map (part r) f qs)
   where
     carries : (r : ℕ) → SpaceCarries (triple_space field) (itself field) (λ k. k) (part r)
     carries zero = record { none = refl; plus = λ u v. refl; scaled = λ k v. refl }

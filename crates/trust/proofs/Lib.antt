@@ -1,8 +1,8 @@
-pub mod Forced
+mod Forced
 pub mod Lifted
 pub mod Own
-pub mod Built
-pub mod Few
-pub mod Demand
-pub mod OneSeed
-pub mod Numbers
+mod Built
+mod Few
+mod Demand
+mod OneSeed
+mod Numbers

@@ -1,13 +1,12 @@
--- `field::inverse` meets its contract: what stands at 255 less the place is the inverse.
+-- `field::inverse` meets its contract: the power at 255 less the place is the inverse.
 use mathlib.Core.Path.{sym, ap, ◌∙◌}
 use Rattle.field.specs.Byte.{inverse}
 use Rattle.field.proofs.Inverses.{inverse_none}
-use Rattle.field.proofs.Lookups.{look_inverse}
+use Rattle.field.proofs.Lookups.{power_inverse}
 use Rattle.field.proofs.inverse.Goals as goal
 
 pub returns-then-a-eq0 : goal.returns-then-a-eq0
 returns-then-a-eq0 c = sym (ap inverse c.if-a-eq0.true ∙ inverse_none)
 
 pub returns : goal.returns
-returns c =
-    look_inverse _ c.powers-table.ensures _ _ c.place.ensures.0 (c.place.ensures.1 c.if-a-eq0.false)
+returns c = c.at.ensures ∙ power_inverse _ _ c.of.ensures.0 (c.of.ensures.1 c.if-a-eq0.false)

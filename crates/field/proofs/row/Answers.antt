@@ -1,4 +1,5 @@
 -- `field::row` meets its contract: the loop puts each product at its place, one power of 03 after the other.
+use mathlib.Core.Path.{◌∙◌}
 use native.Mathlib.Omega.{arith}
 use Rattle.field.proofs.Rows.{start, fill_read, filled, row_none}
 use Rattle.field.proofs.row.Goals as goal
@@ -11,9 +12,8 @@ loop-k-init c = start _
 
 pub loop-k-preserved : goal.loop-k-preserved
 loop-k-preserved c =
-    fill_read _ _ _ _ _ _ c.powers-table.ensures (omega arith)
-    (c.place-at.ensures.1 c.if-by-eq0.false)
-    c.from.ensures c.loop-k.invariant
+    fill_read _ _ _ _ _ _ (c.of-at.ensures.1 c.if-by-eq0.false)
+    (c.from.ensures ∙ c.at-in-loop-k.ensures) c.at.ensures c.loop-k.invariant
 
 pub returns : goal.returns
 returns c = filled _ _ _ (omega arith) c.loop-k.invariant

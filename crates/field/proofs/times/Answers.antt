@@ -1,15 +1,16 @@
--- `field::times` meets its contract: what stands at the sum of two places is the product.
+-- `field::times` meets its contract: the power at the sum of two places is the product.
+use mathlib.Core.Path.{◌∙◌}
 use native.Mathlib.Omega.{arith}
-use Rattle.field.proofs.Lookups.{none_left, none_right, look_times}
+use Rattle.field.proofs.Lookups.{none_left, none_right, power_times}
 use Rattle.field.proofs.times.Goals as goal
+use Rattle.field.proofs.times.Goals.{then-a-eq0-via-then-a-eq0, then-a-eq0-via-else-a-eq0+then-b-eq0}
 
 pub returns-then-a-eq0 : goal.returns-then-a-eq0
-returns-then-a-eq0 c = none_left _ _ c.if-a-eq0.true
-
-pub returns-then-b-eq0 : goal.returns-then-b-eq0
-returns-then-b-eq0 c = none_right _ _ c.if-b-eq0.true
+returns-then-a-eq0 c =
+    elim c.then-a-eq0.branch [
+      | then-a-eq0-via-then-a-eq0 w ↦ none_left _ _ w.if-a-eq0.true
+      | then-a-eq0-via-else-a-eq0+then-b-eq0 w ↦ none_right _ _ w.if-b-eq0.true
+    ]
 
 pub returns : goal.returns
-returns c =
-    look_times _ c.powers-table.ensures _ _ _ _ (omega arith)
-    (c.place.ensures.1 (omega arith)) (c.place-2.ensures.1 (omega arith))
+returns c = c.at.ensures ∙ power_times _ _ _ _ (c.of.ensures.1 (omega arith)) (c.of-2.ensures.1 (omega arith))

@@ -3,6 +3,6 @@ use Rattle.field.specs.Byte.{plus, xtime, product, times}
 use Rattle.field.proofs.Places.{powers, table, seek, seeks, places, places_rule}
 use Rattle.field.proofs.tables.places.Goals as goal
 
-pub returns : goal.returns
+pub invariant_of-result : goal.invariant_of-result
 unfolding places plus powers product seek seeks table times xtime
-returns c = places_rule
+invariant_of-result c = record { rule = places_rule }

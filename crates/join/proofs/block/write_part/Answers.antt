@@ -3,7 +3,6 @@ use Prim.Native.Nat.{◌+◌, ◌*◌, ◌/◌, ◌%◌, ◌<◌}
 use native.Mathlib.Omega.{arith}
 use lib.ListN.{length}
 use Rattle.code.proofs.Bodies.{row, place}
-use Rattle.code.proofs.Walks.{listed_all}
 use Rattle.join.proofs.Blocks.{run_more}
 use Rattle.join.proofs.block.write_part.Goals as goal
 
@@ -17,6 +16,3 @@ loop-done-preserved c =
           (omega (arith, (left).1)) (omega (arith, c.min.ensures, (left).1)) (omega (arith, c.min.ensures, c.loop-done.invariant.1.long))
           c.write_run.ensures c.loop-done.invariant.1,
     )
-
-pub returns : goal.returns
-returns c = listed_all _ _ c.loop-done.done c.loop-done.out (omega (arith, c.loop-done.invariant.1.long)) c.loop-done.invariant.1

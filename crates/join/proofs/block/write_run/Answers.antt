@@ -2,7 +2,6 @@
 use mathlib.Core.Path.{sym, ◌∙◌}
 use native.Mathlib.Omega.{arith}
 use lib.ListN.{length, take, replicate}
-use Rattle.code.proofs.Walks.{all_small}
 use Rattle.join.proofs.Blocks.{weighed, mixed_run}
 use Rattle.join.proofs.Rooms.{lent, back}
 use borrow.Author.Rules.{rules}
