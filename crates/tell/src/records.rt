@@ -9,17 +9,16 @@ use crate::asked::Asked;
 use crate::lines::{add_check, add_fragment, add_join};
 use crate::text::Text;
 use column::Column;
-use fingerprint::SeedTable;
 
-// A line for each of n records, with one table for all their fingerprints.
+// A line for each of n records.
 fn add_fragments(text: &mut Text, n: u8, size: u32, seed: u32, fragments: &[u8])
     requires { length text.old.items + 53 * n ≤ 16384 }
     ensures { text.new.items ≡ text.old.items ++ parts.fragment_lines n size seed fragments.now }
 {
-    let table = SeedTable::new(Column::from_seed(seed));
+    let y = Column::from_seed(seed);
     for index in 0..n {
-        let print = table.fingerprint(cut::body_among(size, fragments, index));
-        add_fragment(text, index, size, print);
+        let body = cut::body_among(size, fragments, index);
+        add_fragment(text, index, size, fingerprint::fingerprint_at(y, body));
     }
 }
 
