@@ -22,7 +22,8 @@ pub fn one_block_matches()
 /// Where no padded block has all the bodies, at most F/3 - 1 of the seeds from 0 to 16,777,215 allow any list of m fingerprints, from
 /// any writer, that matches them all.
 ///
-/// Of bodies as in `one_block_matches`. Two polynomials of F/3 coefficients, one for each column, that agree at F/3 seeds are one.
+/// Of bodies as in `one_block_matches`. Two polynomials of F/3 coefficients, one for each column, that agree at F/3 seeds are one: the
+/// counting of theorem 2.4 and corollary 2.12 of document 000, of all k bodies at once.
 pub fn few_seeds()
     ensures { FewSeeds }
 {}
