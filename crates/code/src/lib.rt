@@ -65,13 +65,6 @@ pub fn coefficient(m: u8, i: u8, j: u8) -> u8
     weight(&points()[..usize::from(m)], j, i)
 }
 
-// The sum of no body: zero bytes.
-pub fn clear(sum: &mut [u8])
-    ensures { sum.new ≡ replicate (length sum.old) 0 }
-{
-    sum.fill(0);
-}
-
 // Adds `by` times the body to the sum, byte by byte, as far as both go.
 pub fn add_scaled(sum: &mut [u8], body: &[u8], by: u8)
     ensures { sum.new ≡ adding.added by sum.old body.now }
@@ -84,11 +77,4 @@ pub fn add_scaled(sum: &mut [u8], body: &[u8], by: u8)
     for k in 0..sum.len().min(body.len()) {
         sum[k] ^= row[usize::from(body[k])];
     }
-}
-
-// How far both of two lengths go.
-pub fn shorter(a: usize, b: usize) -> usize
-    ensures { result ≡ min a b }
-{
-    a.min(b)
 }
