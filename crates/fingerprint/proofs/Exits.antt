@@ -8,13 +8,9 @@ use borrow.Author.Tests.{lt-ltb, le-ltb, eq-eqb, ne_eqb}
 use lib.ListN.{length}
 use Rattle.column.specs.declared.Column.{Column}
 use Rattle.limits.specs.Limits.{longest_body, largest_seed}
-use Rattle.column.specs.Column.{times, from_seed}
-use Rattle.algebra.specs.Several.{All}
-use Rattle.fingerprint.specs.Fingerprint.{columns_of, fingerprint_at}
-use Rattle.fingerprint.specs.Horner.{table_of, evaluated}
+use Rattle.column.specs.Column.{from_seed}
+use Rattle.fingerprint.specs.Fingerprint.{fingerprint_at}
 use Rattle.fingerprint.specs.Answer.{refused, numbers_of, fingerprinted}
-use Rattle.fingerprint.proofs.Packing.{Bytes}
-use Rattle.fingerprint.proofs.Lookups.{by_table}
 
 module _ (seed : ℕ) (body : List ℕ) where
   pub too_long : longest_body < length body → refused 2 ≡ fingerprinted seed body

@@ -1,5 +1,5 @@
 -- `fingerprint::combination` meets its contract: the sum is the combination of those passed, from the last to the first.
-use mathlib.Core.Path.{refl, ap, ◌∙◌}
+use mathlib.Core.Path.{ap, ◌∙◌}
 use Prim.Native.Nat.{ℕ}
 use native.Mathlib.Omega.{arith}
 use lib.ListN.{get_or}

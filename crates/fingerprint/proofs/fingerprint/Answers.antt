@@ -1,7 +1,4 @@
 -- `fingerprint::fingerprint` meets its contract: three refusals, and the fingerprint.
-use mathlib.Core.Path.{◌∙◌}
-use native.Mathlib.Omega.{arith}
-use Rattle.code.proofs.Walks.{all_small}
 use Rattle.fingerprint.proofs.Exits.{too_long, no_seed, no_columns, done}
 use Rattle.fingerprint.proofs.fingerprint.Goals as goal
 

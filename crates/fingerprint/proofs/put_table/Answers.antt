@@ -1,5 +1,4 @@
 -- `fingerprint::put_table` meets its contract: three times 256 places, filled from rows.
-use mathlib.Core.Path.{◌∙◌}
 use native.Mathlib.Omega.{arith}
 use Rattle.fingerprint.proofs.Lookups.{row_of, row_sum, table_put}
 use Rattle.fingerprint.proofs.put_table.Goals as goal

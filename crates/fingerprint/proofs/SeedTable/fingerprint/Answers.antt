@@ -1,6 +1,5 @@
 -- `fingerprint::SeedTable::fingerprint` meets its contract: by the table of the seed column's square.
 use mathlib.Core.Path.{refl}
-use native.Mathlib.Omega.{arith}
 use Rattle.code.proofs.Walks.{all_small}
 use Rattle.fingerprint.proofs.Lookups.{by_table}
 use Rattle.fingerprint.proofs.SeedTable.fingerprint.Goals as goal
