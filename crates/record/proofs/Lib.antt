@@ -5,4 +5,3 @@ pub mod Counts
 pub mod Head
 pub mod Numbers
 pub mod ReadBack
-pub mod Tests
