@@ -269,3 +269,8 @@ module _ (wanted : ℕ) (check records out : List ℕ) where
                 kept : (z : Bool) → cond z (take c.length (padded wanted check records)) out ≡ cond (eqb (cond z 0 14) 0) (take c.length (padded wanted check records)) out
                 kept true = refl
                 kept false = refl
+
+-- an answer whose count of records read is this one
+pub with_read : {number read there indexes : ℕ} {answer : Joined} → record { number = number; read = there; indexes = indexes } ≡ answer → read ≡ there
+    → record { number = number; read = read; indexes = indexes } ≡ answer
+with_read {number} {read} {there} {indexes} e same = (λ i. record { number = number; read = same i; indexes = indexes }) ∙ e

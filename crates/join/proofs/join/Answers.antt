@@ -10,7 +10,7 @@ use Rattle.record.specs.declared.CheckHead.{CheckHead}
 use Rattle.join.specs.Join.{numbers_of}
 use Rattle.join.proofs.Blocks.{spread_all}
 use Rattle.join.proofs.Rooms.{lent, back, back_count}
-use Rattle.join.proofs.Answers.{size_is, refused, passed, too_few, fit, ready, rebuilt}
+use Rattle.join.proofs.Answers.{with_read, size_is, refused, passed, too_few, fit, ready, rebuilt}
 use Rattle.join.proofs.join.Goals as goal
 
 pub returns-in_err-test : goal.returns-in_err-test
@@ -23,7 +23,7 @@ pub returns-then-count-head : goal.returns-then-count-head
 returns-then-count-head c =
     let both = too_few c.args.wanted c.args.check.now c.args.records.now c.args.out.now c.gather-held.result c.gather-held.ensures _ c.as_slice-used.ensures.value
     (passed c.args.wanted c.args.check.now c.args.records.now c.args.out.now c.in_ok-test.ensures)
-    _ (ap (λ (h : CheckHead). h.m) c.read_check-head.ensures) c.if-count-head.true in record { value = both.0; out_after = both.1 }
+    _ (ap (λ (h : CheckHead). h.m) c.read_check-head.ensures) c.if-count-head.true in record { value = with_read both.0 (omega arith); out_after = both.1 }
 
 pub invariant_of-sources : goal.invariant_of-sources
 invariant_of-sources c =
@@ -69,7 +69,7 @@ returns c =
     c.stride.ensures
     _ (size_is c.args.check.now _ c.read_check-head.ensures _ c.body_length-size.ensures)
     c.rebuild-rebuilt.result c.rebuild-rebuilt.new.out c.rebuild-rebuilt.ensures.value c.rebuild-rebuilt.ensures.out_after true c.if-not-rebuilt.false in
-    record { value = both.0; out_after = both.1 }
+    record { value = with_read both.0 (omega arith); out_after = both.1 }
 
 pub returns-then-not-rebuilt : goal.returns-then-not-rebuilt
 returns-then-not-rebuilt c =
@@ -84,4 +84,4 @@ returns-then-not-rebuilt c =
     c.stride.ensures
     _ (size_is c.args.check.now _ c.read_check-head.ensures _ c.body_length-size.ensures)
     c.rebuild-rebuilt.result c.rebuild-rebuilt.new.out c.rebuild-rebuilt.ensures.value c.rebuild-rebuilt.ensures.out_after false c.if-not-rebuilt.true in
-    record { value = both.0; out_after = both.1 }
+    record { value = with_read both.0 (omega arith); out_after = both.1 }
