@@ -1,4 +1,3 @@
-pub mod Among
 pub mod Filling
 pub mod Records
 pub mod Refusals

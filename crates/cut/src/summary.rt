@@ -11,6 +11,7 @@ ghost use Rattle.cut.specs.Cut as cut;
 
 use crate::body_among;
 use column::Column;
+use fingerprint::SeedTable;
 use record::{CheckHead, WRITTEN_VERSION};
 
 // Writes the check record of the bodies in n records, whatever they hold.
@@ -61,15 +62,16 @@ fn write_hashes(out: &mut [u8], n: u8, size: u32, fragments: &[u8])
 }
 
 // Writes the fingerprint of each of the first m bodies, one after the other, with one table for all.
-#[tactic(auto, using(crate::proofs::Filling::filled_none, crate::proofs::Filling::filled_more, crate::proofs::Among::print_is))]
+#[tactic(auto, using(crate::proofs::Filling::filled_none, crate::proofs::Filling::filled_more))]
 fn write_prints(out: &mut [u8], m: u8, size: u32, y: Column, fragments: &[u8])
     requires { length out.old ≡ 3 * m }
     ensures { out.new ≡ end_to_end (listed m (λ j. layout.column_bytes (print.fingerprint_at y (cut.body_among size fragments.now j)))) }
 {
-    let table = fingerprint::table(y * y);
+    let mut room = [0u32; 768];
+    let table = SeedTable::new(y, &mut room);
     for j in 0..m {
         let start = 3 * usize::from(j);
-        let print = fingerprint::evaluated(&table, y, body_among(size, fragments, j));
+        let print = table.fingerprint(body_among(size, fragments, j));
         out[start..start + 3].copy_from_slice(&print.to_bytes());
     }
 }
