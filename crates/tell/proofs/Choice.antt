@@ -1,16 +1,13 @@
 -- Which text is told: each refusal, and the lines of a cut that is not refused.
 use mathlib.Core.Path.{◌≡◌, refl, sym, ap, ap₂, ◌∙◌}
-use mathlib.Core.Bool.{Bool, ◌&&◌, cond}
 use mathlib.Core.List.{List, ◌++◌}
 use Prim.Native.Nat.{ℕ, ◌+◌, ◌-◌, ◌*◌, ◌^◌, ◌<◌, ◌≤◌}
-use native.Mathlib.Nat.{zero-add}
 use native.Mathlib.Omega.{arith}
 use Rattle.std.proofs.lemmas.Bool.Decides.{nat_tests}
 use borrow.Author.Tests.{lt-ltb, eq-eqb, ne_eqb}
 use borrow.Rule.Slice.PartMut.{mid_of}
-use lib.Dec.{eqb, leb, lit<}
-use lib.ListN.{length, drop, get_or, length-replicate}
-use Rattle.limits.specs.Limits.{longest_block, largest_seed}
+use lib.Dec.{lit<}
+use lib.ListN.{length, get_or, length-replicate}
 use Rattle.algebra.specs.Several.{listed, end_to_end}
 use Rattle.algebra.proofs.Several.{listed_same}
 use Rattle.column.specs.Column.{from_seed}
@@ -18,7 +15,7 @@ use Rattle.code.specs.Cutting.{body_length}
 use Rattle.fingerprint.specs.Fingerprint.{fingerprint_at}
 use Rattle.record.specs.Layout.{number_at, written_version, check_length, record_length}
 use Rattle.record.specs.Records.{check_record}
-use Rattle.record.specs.Heads.{check_head_of, counts_fit}
+use Rattle.record.specs.Heads.{check_head_of}
 use Rattle.record.proofs.Buffer.{rest_lent}
 use Rattle.record.proofs.ReadBack.{check_back}
 use Rattle.cut.specs.Cut.{body_of, fragments, check_of, check, buffers_fit, cut_number}

@@ -1,9 +1,8 @@
 -- How much room a block of at most 512 bytes takes.
-use mathlib.Core.Path.{◌≡◌, refl, ap, ◌∙◌}
+use mathlib.Core.Path.{◌≡◌, refl}
 use Prim.Native.Nat.{ℕ, zero, suc, ◌+◌, ◌-◌, ◌*◌, ◌/◌, ◌<◌, ◌≤◌}
 use native.Mathlib.Nat.{div-lt_iff_lt-mul, mul-le-mul_right}
 use native.Mathlib.Omega.{arith}
-use lib.ListN.{length}
 use lib.Seq.{length-take-le}
 use Rattle.code.specs.Cutting.{body_length}
 use Rattle.code.proofs.Lengths.{no_bodies}

@@ -1,31 +1,20 @@
 -- What is told of a cut's records: how long each line is, the lines one after the other, and that they are those of the definition.
-use mathlib.Core.Path.{◌≡◌, refl, sym, ap, ap₂, subst, ◌∙◌}
+use mathlib.Core.Path.{◌≡◌, refl, ap}
 use mathlib.Core.List.{List, [], ◌∷◌, ◌++◌, map, append_assoc}
-use Prim.Native.Nat.{ℕ, zero, suc, ◌+◌, ◌-◌, ◌*◌, ◌/◌, ◌%◌, ◌<◌, ◌≤◌}
-use native.Mathlib.Nat.{mul-mod_right}
+use Prim.Native.Nat.{ℕ, zero, suc, ◌+◌, ◌-◌, ◌*◌, ◌≤◌}
 use native.Mathlib.Numerals.{add-one}
 use native.Mathlib.Omega.{arith}
-use lib.ListN.{length, take, drop, replicate, length-append, length-drop}
-use lib.Seq.{length-take-le}
+use lib.ListN.{length, drop, length-append}
 use borrow.Rule.Slice.PartMut.{mid_of}
-use borrow.Author.Tests.{le-ltb, eq-eqb}
-use Rattle.std.proofs.lemmas.List.{take-replicate}
-use Rattle.limits.specs.Limits.{longest_body, largest_seed}
 use Rattle.algebra.specs.Several.{listed, end_to_end}
 use Rattle.algebra.proofs.Several.{end_to_end_more}
 use Rattle.code.specs.Cutting.{body_length}
 use Rattle.column.specs.declared.Column.{Column}
-use Rattle.std.specs.Prelude.{Result, Ok, Err}
-use Rattle.refusal.specs.declared.Refusal.{Refusal}
-use Rattle.refusal.proofs.Outcome.{not_none}
-use Rattle.fingerprint.specs.Answer.{Fingerprinted, numbers_of, fingerprinted}
-use Rattle.cut.specs.Cut.{body_among}
-use Rattle.join.specs.Join.{Joined, join_answer}
 use Rattle.record.specs.declared.CheckHead.{CheckHead}
 use Rattle.record.specs.Heads.{check_head_of}
 use Rattle.record.proofs.Buffer.{rest_lent}
-use Rattle.record.specs.Layout.{written_version, record_length, body_place, check_mark, fragment_mark}
-use Rattle.tell.specs.Lines.{decimal, hex, fields, line, join_mark, check_line, fragment_line, join_line}
+use Rattle.record.specs.Layout.{written_version, record_length, check_mark}
+use Rattle.tell.specs.Lines.{decimal, hex, fields, line, check_line, fragment_line}
 use Rattle.tell.specs.Parts.{print_among, fragment_lines, head_line, answer_line, shown}
 use Rattle.tell.proofs.Decimals.{decimal_short, spelled, spelled_short}
 

@@ -1,5 +1,5 @@
 -- What the functions inside this crate promise; no public function cites it.
-use Rattle.std.specs.Prelude.{List, ◌++◌, ℕ, ◌+◌, ◌-◌, ◌*◌, length, take, drop, replicate}
+use Rattle.std.specs.Prelude.{List, ◌++◌, ℕ, ◌-◌, ◌*◌, drop, replicate}
 use Rattle.algebra.specs.Several.{listed, end_to_end}
 use Rattle.column.specs.declared.Column.{Column}
 use Rattle.column.specs.Column.{from_seed}

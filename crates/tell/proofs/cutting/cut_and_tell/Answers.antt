@@ -1,6 +1,6 @@
 -- `cutting::cut_and_tell` meets its contract: there is room.
-use Rattle.std.proofs.Common.{◌≡◌, ◌*◌, refl, sym, ap, ◌∙◌, length, replicate, arith, length-take-le}
-use Rattle.record.specs.Layout.{head, written_version, record_length}
+use Rattle.std.proofs.Common.{refl, sym, ◌∙◌, length, replicate, arith, length-take-le}
+use Rattle.record.specs.Layout.{head}
 use Rattle.tell.proofs.Room.{body_short, records_short}
 use Rattle.tell.proofs.cutting.cut_and_tell.Goals as goal
 

@@ -1,5 +1,5 @@
 -- `cutting::cut_within` meets its contract: the cut's refusal, or the lines of what it wrote.
-use Rattle.std.proofs.Common.{sym, ◌∙◌, length, arith}
+use Rattle.std.proofs.Common.{◌∙◌, arith}
 use Rattle.refusal.proofs.Outcome.{not_none}
 use Rattle.cut.proofs.Refusals.{passed}
 use Rattle.tell.proofs.Choice.{refused_is, told_refused, told_shown}

@@ -1,5 +1,5 @@
 -- `records::add_all` meets its contract: the check record, the fragments, the join.
-use Rattle.std.proofs.Common.{◌≡◌, ℕ, ◌*◌, ◌-◌, ◌%◌, ap, sym, ◌∙◌, length, arith, append_assoc}
+use Rattle.std.proofs.Common.{◌∙◌, length, arith}
 use Rattle.std.proofs.lemmas.Grind.{common_steps}
 use Rattle.tell.proofs.Room.{body_short}
 use Rattle.tell.proofs.Shown.{check_short, lines_short, shown_is}

@@ -1,5 +1,5 @@
 -- `text::add_line` meets its contract: the mark, the numbers, the ending.
-use Rattle.std.proofs.Common.{arith, length}
+use Rattle.std.proofs.Common.{arith}
 use Rattle.std.proofs.lemmas.Grind.{common_steps}
 use Rattle.tell.proofs.Decimals.{first_short}
 use Rattle.tell.proofs.text.add_line.Goals as goal
