@@ -2,7 +2,7 @@
 // for of a body. No public function asks anything of its caller.
 #![tactic(auto)]
 
-ghost use Rattle.std.specs.Prelude.{◌≡◌, ◌+◌, ◌≤◌, ◌<◌, length, get_or, drop};
+ghost use Rattle.std.specs.Prelude.{◌≡◌, ◌+◌, ◌<◌, length, get_or};
 ghost use Rattle.algebra.specs.Several.{listed};
 ghost use Rattle.field.specs.Byte.{plus};
 ghost use Rattle.algebra.specs.Combination.{combined};
