@@ -4,7 +4,7 @@
 
 pub mod stated;
 
-ghost use Rattle.std.specs.Prelude.{◌≡◌, ◌+◌, ◌≤◌, ◌<◌, length, get_or, drop};
+ghost use Rattle.std.specs.Prelude.{◌≡◌, ◌+◌, ◌<◌, length, get_or};
 ghost use Rattle.algebra.specs.Several.{listed};
 ghost use Rattle.field.specs.Byte.{plus};
 ghost use Rattle.algebra.specs.Combination.{combined};

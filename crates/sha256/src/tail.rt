@@ -1,5 +1,5 @@
 // The end of a message: what is left past its whole blocks, with the padding after it (FIPS 180-4, 5.1.1), and the digest.
-ghost use Rattle.std.specs.Prelude.{◌≡◌, ◌*◌, ◌%◌, ◌<◌, ◌≤◌, ◌++◌, length, slice_index};
+ghost use Rattle.std.specs.Prelude.{◌≡◌, ◌*◌, ◌%◌, ◌≤◌, ◌++◌, length};
 ghost use Rattle.sha256.specs.Fips180.{bytes, padding, digest as fips_digest};
 ghost use Rattle.sha256.specs.Hash.{finished};
 
