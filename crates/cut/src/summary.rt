@@ -25,7 +25,6 @@ pub(crate) fn write_check(
     check: &mut [u8],
 )
     requires le_m { (1 ≤ m) × (m ≤ n) × (length ≤ longest_block) }
-    requires fragments_value { lib.ListN.length fragments.now ≡ n * layout.record_length layout.written_version (cutting.body_length length m) }
     requires check_value { lib.ListN.length check.old ≡ layout.check_length layout.written_version m n }
     ensures { check.new ≡ cut.check_of m n seed number length (cut.body_among (cutting.body_length length m) fragments.now) }
 {
@@ -49,6 +48,7 @@ pub(crate) fn write_check(
 }
 
 // Writes the hash of each of n bodies, one after the other.
+// The next function is its twin but for the piece: one for both would take a closure with a contract of its own and a ghost for what it says, longer than either.
 #[tactic(auto, using(crate::proofs::Filling::filled_none, crate::proofs::Filling::filled_more, sha256::proofs::Lengths::length_SHA_256))]
 fn write_hashes(out: &mut [u8], n: u8, size: u32, fragments: &[u8])
     requires { length out.old ≡ 32 * n }
