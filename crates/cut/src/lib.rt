@@ -9,9 +9,11 @@ mod standard;
 mod summary;
 mod tests;
 
-ghost use Rattle.std.specs.Prelude.{◌≡◌};
+ghost use Rattle.std.specs.Prelude.{◌≡◌, ℕ, List, Result};
+ghost use Rattle.refusal.specs.declared.Refusal.{Refusal};
 ghost use Rattle.refusal.specs.Number.{number_in};
 ghost use Rattle.cut.specs.Cut as cut;
+ghost use Rattle.cut.specs.Standard as standard;
 
 use record::WRITTEN_VERSION;
 use refusal::Refusal;
@@ -46,4 +48,16 @@ pub fn body_among(size: u32, records: &[u8], index: u8) -> &[u8]
 {
     let start = usize::from(index) * record::record_length(WRITTEN_VERSION, size);
     bodies::part(records, start + record::body_place(WRITTEN_VERSION), size)
+}
+
+// What `cut` and `cut_standard` promise fixes their answer.
+pub fn one_answer()
+    ensures { (m n seed : ℕ) (block fragments check : List ℕ) (a b : Result Unit Refusal) → number_in a ≡ cut.cut_number m n seed block fragments check → number_in b ≡ cut.cut_number m n seed block fragments check → a ≡ b }
+{
+}
+
+// What `card_size` promises fixes its answer.
+pub fn one_card_size()
+    ensures { (length : ℕ) (a b : Result ℕ Refusal) → standard.numbers_of a ≡ standard.planned length → standard.numbers_of b ≡ standard.planned length → a ≡ b }
+{
 }

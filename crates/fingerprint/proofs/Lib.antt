@@ -6,3 +6,4 @@ pub mod Exits
 pub mod Lookups
 pub mod Packing
 pub mod Steps
+pub mod Outcome

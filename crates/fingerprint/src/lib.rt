@@ -4,7 +4,9 @@
 
 pub mod stated;
 
-ghost use Rattle.std.specs.Prelude.{◌≡◌, ◌+◌, ◌<◌, length, get_or};
+ghost use Rattle.std.specs.Prelude.{◌≡◌, ℕ, List, Result, ◌+◌, ◌<◌, length, get_or};
+ghost use Rattle.refusal.specs.declared.Refusal.{Refusal};
+ghost use Rattle.column.specs.declared.Column.{Column as FieldColumn};
 ghost use Rattle.algebra.specs.Several.{listed};
 ghost use Rattle.field.specs.Byte.{plus};
 ghost use Rattle.algebra.specs.Combination.{combined};
@@ -31,6 +33,12 @@ pub fn fingerprint(seed: u32, body: &[u8]) -> Result<Column, Refusal>
         return Err(Refusal::WrongLength);
     }
     Ok(fingerprint_at(Column::from_seed(seed), body))
+}
+
+// What `fingerprint` promises fixes its answer.
+pub fn one_answer()
+    ensures { (seed : ℕ) (body : List ℕ) (a b : Result FieldColumn Refusal) → answer.numbers_of a ≡ answer.fingerprinted seed body → answer.numbers_of b ≡ answer.fingerprinted seed body → a ≡ b }
+{
 }
 
 // The fingerprint of a body of any length at a seed column.

@@ -70,10 +70,14 @@ told_back (Fill counts) = refl
 pub one_refusal : (r s : Refusal) → number_of r ≡ number_of s → values_of r ≡ values_of s → r ≡ s
 one_refusal r s n v = sym (told_back r) ∙ ap₂ refused n v ∙ told_back s
 
--- an answer without a value is fixed by its number, where the number alone says all
+-- a refusal by a number below 9 is fixed by it
+pub one_error : (r s : Refusal) → number_of r ≡ number_of s → number_of r < 9 → r ≡ s
+one_error r s n small = one_refusal r s n (alone r small ∙ sym (alone s (omega (arith, n, small))))
+
+-- an answer is fixed by its number where that is below 9, and by its value where it is done
 pub one_answer : {A : Type 0} (a b : Result A Refusal) → number_in a ≡ number_in b → number_in a < 9
     → ((x y : A) → a ≡ Ok x → b ≡ Ok y → x ≡ y) → a ≡ b
 one_answer (Ok x) (Ok y) n small same = ap Ok (same x y refl refl)
 one_answer (Ok x) (Err s) n small same = absurd (not_none s (sym n))
 one_answer (Err r) (Ok y) n small same = absurd (not_none r n)
-one_answer (Err r) (Err s) n small same = ap Err (one_refusal r s n (alone r small ∙ sym (alone s (omega (arith, n, small)))))
+one_answer (Err r) (Err s) n small same = ap Err (one_error r s n small)

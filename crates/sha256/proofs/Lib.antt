@@ -4,3 +4,4 @@ pub mod Ending
 pub mod Pieces
 pub mod Lengths
 pub mod Known
+pub mod Outcome

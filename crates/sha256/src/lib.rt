@@ -6,7 +6,8 @@ mod block;
 mod tail;
 mod word;
 
-ghost use Rattle.std.specs.Prelude.{◌≡◌};
+ghost use Rattle.std.specs.Prelude.{◌≡◌, ℕ, List, Result};
+ghost use Rattle.refusal.specs.declared.Refusal.{Refusal};
 ghost use Rattle.sha256.specs.Fips180.{H⁰, SHA_256};
 ghost use Rattle.sha256.specs.Hash.{answered, numbers_of};
 
@@ -58,4 +59,10 @@ pub fn start() -> State
         g: 0x1f83d9ab,
         h: 0x5be0cd19,
     }
+}
+
+// What `sha256` promises fixes its answer.
+pub fn one_answer()
+    ensures { (body : List ℕ) (a b : Result (List ℕ) Refusal) → numbers_of a ≡ answered body → numbers_of b ≡ answered body → a ≡ b }
+{
 }
