@@ -1,7 +1,7 @@
-// What C and Rust link, as `include/ruwekiha.h` declares it; `abi_c` exports each function to C by its name. Each gives the number of
-// document 01 and asks nothing of its caller. To C a `&[u8]` is a pointer and a length; further values go through pointers that are
-// always written, 0 where the document gives none. On a refusal each lent buffer holds what it held. The header's `record` is
-// `fragment` here, since contracts have another use for that word.
+//! What C and Rust link, as `include/ruwekiha.h` declares it; `abi_c` exports each function to C by its name. Each gives the number of
+//! document 01 and asks nothing of its caller. To C a `&[u8]` is a pointer and a length; further values go through pointers that are
+//! always written, 0 where the document gives none. On a refusal each lent buffer holds what it held. The header's `record` is
+//! `fragment` here, since contracts have another use for that word.
 #![tactic(auto)]
 
 ghost use Rattle.std.specs.Prelude.{◌≡◌};

@@ -1,4 +1,4 @@
-// The archive that C and Rust link, as `include/ruwekiha.h` declares it: each function of `abi`, with its clauses, under its name.
+//! The archive that C and Rust link, as `include/ruwekiha.h` declares it: each function of `abi`, with its clauses, under its name.
 #![tactic(auto)]
 
 ghost use Rattle.std.specs.Prelude.{◌≡◌};

@@ -1,4 +1,4 @@
-// The program: reads m, n, a seed column, a block number and a block, and prints what `tell` makes of them.
+//! The program: reads m, n, a seed column, a block number and a block, and prints what `tell` makes of them.
 #![tactic(auto)]
 
 ghost use Rattle.std.specs.Prelude.{◌≤◌, length};

@@ -1,4 +1,4 @@
-// Cuts: each refusal on both sides of its bound, the order of the refusals, and the standard setting.
+//! Cuts: each refusal on both sides of its bound, the order of the refusals, and the standard setting.
 use refusal::Refusal;
 use std::io;
 

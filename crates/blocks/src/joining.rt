@@ -1,4 +1,4 @@
-// Joins: from any records that suffice, each refusal, and the order of the refusals.
+//! Joins: from any records that suffice, each refusal, and the order of the refusals.
 use crate::setting::Setting;
 use std::io;
 

@@ -1,5 +1,5 @@
-// Cuts and joins blocks on each side of each bound that refuses them, and prints what comes out, a line for each. The file `stdout`
-// beside src/ holds what document 01 says: bytes in hexadecimal, other numbers in decimal.
+//! Cuts and joins blocks on each side of each bound that refuses them, and prints what comes out, a line for each. The file `stdout`
+//! beside src/ holds what document 01 says: bytes in hexadecimal, other numbers in decimal.
 #![tactic(auto)]
 
 mod cutting;

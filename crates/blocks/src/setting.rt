@@ -1,4 +1,4 @@
-// What a join is handed: the records of a cut, whole or in part, with other bytes or another length in some places.
+//! What a join is handed: the records of a cut, whole or in part, with other bytes or another length in some places.
 use arrayvec::ArrayVec;
 
 #[derive(Drop)]

@@ -1,4 +1,4 @@
-// Bytes and columns: products, inverses, the powers of 03 at the table's two ends, the square of a column.
+//! Bytes and columns: products, inverses, the powers of 03 at the table's two ends, the square of a column.
 use column::Column;
 use std::io;
 

@@ -1,4 +1,4 @@
-// The code: how long a body is, and the coefficients.
+//! The code: how long a body is, and the coefficients.
 use std::io;
 
 pub(crate) fn run(rt: &HostRuntime) -> io::Result<()> {

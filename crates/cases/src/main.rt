@@ -1,5 +1,5 @@
-// Runs document 01's numbers through the code and prints what comes out, a line for each. The file `stdout` beside src/ holds what
-// the document says: bytes in hexadecimal, other numbers in decimal.
+//! Runs document 01's numbers through the code and prints what comes out, a line for each. The file `stdout` beside src/ holds what
+//! the document says: bytes in hexadecimal, other numbers in decimal.
 #![tactic(auto)]
 
 mod bytes;

@@ -1,4 +1,4 @@
-// Fingerprints: the worked ones, and each refusal on both sides of its bound.
+//! Fingerprints: the worked ones, and each refusal on both sides of its bound.
 use column::Column;
 use std::io;
 

@@ -1,4 +1,4 @@
-// The weights of all the points at once: a spread for each point is made once, and then each weight is a quotient.
+//! The weights of all the points at once: a spread for each point is made once, and then each weight is a quotient.
 ghost use Rattle.std.specs.Prelude.{◌≡◌, map};
 ghost use Rattle.field.specs.Byte.{bytes, inverse};
 ghost use Rattle.code.specs.Cutting as cutting;
@@ -7,7 +7,7 @@ ghost use Rattle.code.specs.Shares as shares;
 
 use crate::{points, spread};
 
-// The spread of each point among all of them.
+/// The spread of each point among all of them.
 pub fn each_spread(points: &[u8], out: &mut [u8])
     ensures { out.new ≡ shares.overlaid (map (weights.spread bytes points.now) points.now) out.old }
 {
@@ -16,7 +16,7 @@ pub fn each_spread(points: &[u8], out: &mut [u8])
     }
 }
 
-// The weight of each point at t, from the points' spreads. The loop is written twice, here and above, since all that it does is one call.
+/// The weight of each point at t, from the points' spreads. The loop is written twice, here and above, since all that it does is one call.
 pub fn each_share(points: &[u8], spreads: &[u8], t: u8, out: &mut [u8])
     ensures { out.new ≡ shares.overlaid (shares.shares points.now spreads.now t) out.old }
 {
@@ -26,7 +26,7 @@ pub fn each_share(points: &[u8], spreads: &[u8], t: u8, out: &mut [u8])
     }
 }
 
-// How much each of the first m bodies counts in body i.
+/// How much each of the first m bodies counts in body i.
 pub fn coefficients(m: u8, i: u8, out: &mut [u8])
     ensures { out.new ≡ shares.overlaid (map (cutting.coefficient_of m i) (cutting.points m)) out.old }
 {

@@ -1,5 +1,5 @@
-// Three bytes as a column, a value: `ZERO`, `ONE`, the column of a seed number; sums, multiples by a byte and products.
-// Column (a, b, c) is a + b x + c x^2 modulo x^3 + x + 1. No function asks anything of its caller.
+//! Three bytes as a column, a value: `ZERO`, `ONE`, the column of a seed number; sums, multiples by a byte and products.
+//! Column (a, b, c) is a + b x + c x^2 modulo x^3 + x + 1. No function asks anything of its caller.
 #![tactic(auto)]
 
 pub mod stated;
@@ -21,7 +21,7 @@ impl Column {
 
     pub const ONE: Column = Column { a: 1, b: 0, c: 0 };
 
-    // The column of a seed number; of a number over the largest seed the zero column.
+    /// The column of a seed number; of a number over the largest seed the zero column.
     #[tactic(auto, unfolding(crate::specs::Column::from_seed))]
     pub fn from_seed(seed: u32) -> Column
         ensures { result ≡ column.from_seed seed }
@@ -33,7 +33,7 @@ impl Column {
         Column { a, b, c }
     }
 
-    // Its three bytes in coefficient order.
+    /// Its three bytes in coefficient order.
     pub fn to_bytes(self) -> [u8; 3]
         ensures { result ≡ self.a ∷ self.b ∷ self.c ∷ [] }
     {
@@ -62,7 +62,7 @@ impl Column {
         }
     }
 
-    // Times x, where x^3 is x + 1.
+    /// Times x, where x^3 is x + 1.
     #[tactic(auto, unfolding(crate::specs::Column::shifted), using(field::proofs::Sum::plus_comm))]
     pub fn shifted(self) -> Column
         ensures { result ≡ column.shifted self }
@@ -74,7 +74,7 @@ impl Column {
         }
     }
 
-    // By Horner's rule on the other's three bytes.
+    /// By Horner's rule on the other's three bytes.
     #[tactic(auto, unfolding(crate::specs::Column::plus, crate::specs::Column::scaled, crate::specs::Column::shifted, crate::specs::Column::times))]
     pub fn times(self, other: Column) -> Column
         ensures { result ≡ column.times self other }

@@ -1,10 +1,10 @@
 -- What is promised of an answer fixes it.
-use Rattle.std.specs.Prelude.{◌≡◌, ℕ, ◌<◌, cond, List, length, eqb, leb, Bool, true, false, Result, Ok, Err}
+use Rattle.std.specs.Prelude.{◌≡◌, ℕ, ◌<◌, cond, List, length, leb, Bool, true, false, Result, Ok, Err}
 use native.Mathlib.Omega.{arith}
 use mathlib.Core.Path.{refl, sym, ap, ◌∙◌}
 use Rattle.limits.specs.Limits.{longest_block, largest_seed}
 use Rattle.refusal.specs.declared.Refusal.{Refusal}
-use Rattle.refusal.specs.Number.{number_of, number_in}
+use Rattle.refusal.specs.Number.{number_in}
 use Rattle.refusal.proofs.Outcome.{not_none, one_error, one_answer as one_numbered}
 use Rattle.code.specs.Cutting.{body_length}
 use Rattle.record.specs.Layout.{written_version, record_length}

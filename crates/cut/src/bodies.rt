@@ -1,4 +1,4 @@
-// A body of a block, written where it belongs: the block's own bytes, or the sum of its own bodies by their coefficients.
+//! A body of a block, written where it belongs: the block's own bytes, or the sum of its own bodies by their coefficients.
 ghost use Rattle.std.specs.Prelude.{◌≡◌, map, ℕ, ◌*◌, ◌<◌, length, get_or, take, drop, replicate};
 ghost use Rattle.field.specs.Byte.{bytes};
 ghost use Rattle.code.specs.Cutting as cutting;

@@ -1,4 +1,4 @@
-// The n fragment records of a block, end to end.
+//! The n fragment records of a block, end to end.
 ghost use Rattle.std.specs.Prelude.{◌≡◌, map, ◌*◌, ◌≤◌, length};
 ghost use Rattle.limits.specs.Limits.{longest_block};
 ghost use Rattle.algebra.specs.Several.{listed, end_to_end};

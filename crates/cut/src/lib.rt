@@ -1,6 +1,6 @@
-// Cutting a block into n fragment records and a check record.
-// `cut` with the counts that the caller names, `cut_standard` with the standard ones; `card_size` plans for the standard ones.
-// No public function asks anything of its caller; on a refusal both buffers hold what they held.
+//! Cutting a block into n fragment records and a check record.
+//! `cut` with the counts that the caller names, `cut_standard` with the standard ones; `card_size` plans for the standard ones.
+//! No public function asks anything of its caller; on a refusal both buffers hold what they held.
 #![tactic(auto)]
 
 mod bodies;
@@ -19,7 +19,7 @@ use record::WRITTEN_VERSION;
 use refusal::Refusal;
 pub use standard::{card_size, cut_standard};
 
-// Writes the n records, then their check record from the bodies where they now stand.
+/// Writes the n records, then their check record from the bodies where they now stand.
 #[tactic(auto, using(crate::proofs::Refusals::passed, crate::proofs::Records::check_is))]
 pub fn cut(
     m: u32,
@@ -41,7 +41,7 @@ pub fn cut(
     Ok(())
 }
 
-// The body of record `index` among records that stand end to end, each with a body of `size` bytes; what of it is there, where they end before.
+/// The body of record `index` among records that stand end to end, each with a body of `size` bytes; what of it is there, where they end before.
 #[tactic(auto, unfolding(crate::specs::Cut::body_among), using(crate::proofs::Sources::place_fits, record::proofs::Head::head_below))]
 pub fn body_among(size: u32, records: &[u8], index: u8) -> &[u8]
     ensures { result.now ≡ cut.body_among size records.now index }
@@ -50,14 +50,12 @@ pub fn body_among(size: u32, records: &[u8], index: u8) -> &[u8]
     bodies::part(records, start + record::body_place(WRITTEN_VERSION), size)
 }
 
-// What `cut` and `cut_standard` promise fixes their answer.
+/// What `cut` and `cut_standard` promise fixes their answer.
 pub fn one_answer()
     ensures { (m n seed : ℕ) (block fragments check : List ℕ) (a b : Result Unit Refusal) → number_in a ≡ cut.cut_number m n seed block fragments check → number_in b ≡ cut.cut_number m n seed block fragments check → a ≡ b }
-{
-}
+{}
 
-// What `card_size` promises fixes its answer.
+/// What `card_size` promises fixes its answer.
 pub fn one_card_size()
     ensures { (length : ℕ) (a b : Result ℕ Refusal) → standard.numbers_of a ≡ standard.planned length → standard.numbers_of b ≡ standard.planned length → a ≡ b }
-{
-}
+{}

@@ -1,4 +1,4 @@
-// The standard setting, and what relies on it.
+//! The standard setting, and what relies on it.
 ghost use Rattle.std.specs.Prelude.{◌≡◌};
 ghost use Rattle.refusal.specs.Number.{number_in};
 ghost use Rattle.cut.specs.Cut as cut;
@@ -11,7 +11,7 @@ const STANDARD_M: u8 = 8;
 
 const STANDARD_N: u8 = 12;
 
-// A cut with the standard counts.
+/// A cut with the standard counts.
 pub fn cut_standard(
     seed: u32,
     number: u64,
@@ -34,7 +34,7 @@ pub fn cut_standard(
     )
 }
 
-// How many bytes a card has to hold for a block of `length` bytes in the standard setting.
+/// How many bytes a card has to hold for a block of `length` bytes in the standard setting.
 #[tactic(auto, unfolding(crate::specs::Standard::planned), using(code::proofs::Longest::body_length_fits))]
 pub fn card_size(length: u64) -> Result<u64, Refusal>
     ensures { standard.numbers_of result ≡ standard.planned length }

@@ -1,4 +1,4 @@
-// The check record of n fragment records, from the bodies where they stand.
+//! The check record of n fragment records, from the bodies where they stand.
 ghost use Rattle.std.specs.Prelude.{◌≡◌, ◌+◌, ◌*◌, ◌≤◌};
 ghost use lib.ListN.{length};
 ghost use Rattle.limits.specs.Limits.{longest_block};

@@ -1,4 +1,4 @@
-// When a cut is refused.
+//! When a cut is refused.
 ghost use Rattle.std.specs.Prelude.{◌≡◌};
 ghost use Rattle.refusal.specs.Number.{number_in};
 ghost use Rattle.cut.specs.Cut as cut;

@@ -1,5 +1,5 @@
 -- Every byte but 00 is a power of 03, at its place in the table of powers. The places are computed, and tested against the powers.
-use mathlib.Core.Path.{◌≡◌, refl, sym, ap, ◌∙◌}
+use mathlib.Core.Path.{◌≡◌, refl, sym, ◌∙◌}
 use mathlib.Core.Logic.{◌≢◌}
 use mathlib.Core.Bool.{Bool, true, false}
 use mathlib.Core.List.{List, [], ◌∷◌}
@@ -66,9 +66,3 @@ place_at (suc a) h n =
 
 pub places_rule : Places places
 places_rule a h = (place_lt a h, place_at a h)
-
--- what is read at a in a table with the rule
-pub place_read : (t : List ℕ) → Places t → (a i r : ℕ) → a < 256 → i ≡ a → r ≡ get_or t i 0 → (r < 255) × (a ≢ 0 → power 3 r ≡ a)
-place_read t rule a i r h e read =
-    let at_a : r ≡ get_or t a 0 = read ∙ ap (λ (x : ℕ). get_or t x 0) e in
-    (omega (arith, (rule a h).0), λ some. ap (power 3) at_a ∙ (rule a h).1 some)

@@ -1,11 +1,11 @@
-// A multiple of bytes added to others, each product taken by itself: for fewer bytes than a row of products is worth.
+//! A multiple of bytes added to others, each product taken by itself: for fewer bytes than a row of products is worth.
 ghost use Rattle.std.specs.Prelude.{◌≡◌, ◌<◌};
 ghost use Rattle.field.specs.Adding as adding;
 ghost use Rattle.field.specs.Byte as byte;
 
 use crate::tables::{PlaceTable, PowerTable, places, powers};
 
-// Adds `by` times each factor to the sum, byte by byte, as far as both go.
+/// Adds `by` times each factor to the sum, byte by byte, as far as both go.
 pub fn add_products(sum: &mut [u8], factors: &[u8], by: u8)
     ensures { sum.new ≡ adding.added by sum.old factors.now }
 {

@@ -1,6 +1,6 @@
-// The bytes as the field of FIPS 197: sum, product, inverse and quotient of two bytes, the row of all products by one byte, and a
-// multiple of some bytes added to others. Products stand on one table of the powers of 03; a function of many products reads each
-// table once. No public function asks anything of its caller.
+//! The bytes as the field of FIPS 197: sum, product, inverse and quotient of two bytes, the row of all products by one byte, and a
+//! multiple of some bytes added to others. Products stand on one table of the powers of 03; a function of many products reads each
+//! table once. No public function asks anything of its caller.
 #![tactic(auto)]
 
 mod adding;
@@ -32,7 +32,7 @@ pub fn times(a: u8, b: u8) -> u8
     powers.at(places.of(a) + places.of(b))
 }
 
-// 0 for 0.
+/// 0 for 0.
 pub fn inverse(a: u8) -> u8
     ensures { result ≡ byte.inverse a }
 {
@@ -44,7 +44,7 @@ pub fn inverse(a: u8) -> u8
     powers.at(255 - places.of(a))
 }
 
-// a times the inverse of b, so 0 where b is 0. Not by `times` and `inverse`, which would read each table twice.
+/// a times the inverse of b, so 0 where b is 0. Not by `times` and `inverse`, which would read each table twice.
 pub fn quotient(a: u8, b: u8) -> u8
     ensures { result ≡ byte.times a (byte.inverse b) }
 {
@@ -56,7 +56,7 @@ pub fn quotient(a: u8, b: u8) -> u8
     powers.at(places.of(a) + (255 - places.of(b)))
 }
 
-// Entry x is the product of `by` and x: one lookup for each product by the same byte.
+/// Entry x is the product of `by` and x: one lookup for each product by the same byte.
 pub fn row(by: u8) -> [u8; 256]
     ensures { result ≡ byte.products by }
 {

@@ -1,4 +1,4 @@
-// Products over many points. A product under way is kept as its place among the powers of 03; it has none once a factor was 0.
+//! Products over many points. A product under way is kept as its place among the powers of 03; it has none once a factor was 0.
 ghost use Rattle.std.specs.Prelude.{◌≡◌, ◌<◌, IfSome};
 ghost use Rattle.algebra.specs.Polynomial as polynomial;
 ghost use Rattle.field.specs.Byte as byte;
@@ -6,7 +6,7 @@ ghost use Rattle.field.specs.Byte as byte;
 use crate::plus;
 use crate::tables::{PlaceTable, places, powers};
 
-// The product of t + q over all the points q.
+/// The product of t + q over all the points q.
 pub fn nodal(points: &[u8], t: u8) -> u8
     ensures { result ≡ polynomial.nodal byte.bytes points.now t }
 {
@@ -18,8 +18,8 @@ pub fn nodal(points: &[u8], t: u8) -> u8
     settled(product)
 }
 
-// The product of t + q over the points q that are not p. Beside `nodal`: one body for both would have to carry an Option of the point
-// that is left out, and look at it in every turn.
+/// The product of t + q over the points q that are not p. Beside `nodal`: one body for both would have to carry an Option of the point
+/// that is left out, and look at it in every turn.
 pub fn spread_but(points: &[u8], p: u8, t: u8) -> u8
     ensures { result ≡ polynomial.spread_but byte.bytes points.now p t }
 {

@@ -1,5 +1,5 @@
-// The table of the powers of 03, and the place of each byte in it: each of a type that has the table's rule, which is proved once, where
-// the constant is read. Reading it is copying it, so a function of many products reads it once.
+//! The table of the powers of 03, and the place of each byte in it: each of a type that has the table's rule, which is proved once, where
+//! the constant is read. Reading it is copying it, so a function of many products reads it once.
 ghost use Rattle.std.specs.Prelude.{◌≡◌, ◌≢◌, ◌<◌};
 ghost use Rattle.field.specs.Byte as byte;
 

@@ -4,7 +4,6 @@ use native.Mathlib.Omega.{arith}
 use mathlib.Core.Path.{sym, ap, ◌∙◌}
 use Rattle.limits.specs.Limits.{longest_body, largest_seed}
 use Rattle.refusal.specs.declared.Refusal.{Refusal}
-use Rattle.refusal.specs.Number.{number_of}
 use Rattle.refusal.proofs.Outcome.{not_none, one_error}
 use Rattle.column.specs.declared.Column.{Column}
 use Rattle.column.specs.Column.{from_seed}

@@ -1,5 +1,5 @@
-// Fingerprints: of a body at a seed, by Horner's rule with a table for each seed, and the one that a list of fingerprints calls
-// for of a body. No public function asks anything of its caller.
+//! Fingerprints: of a body at a seed, by Horner's rule with a table for each seed, and the one that a list of fingerprints calls
+//! for of a body. No public function asks anything of its caller.
 #![tactic(auto)]
 
 pub mod stated;
@@ -19,7 +19,7 @@ ghost use Rattle.fingerprint.specs.Answer as answer;
 use column::Column;
 use refusal::Refusal;
 
-// The fingerprint of a body at a seed number; refused by 2, 3 and 4 as they apply.
+/// The fingerprint of a body at a seed number; refused by 2, 3 and 4 as they apply.
 pub fn fingerprint(seed: u32, body: &[u8]) -> Result<Column, Refusal>
     ensures { answer.numbers_of result ≡ answer.fingerprinted seed body.now }
 {
@@ -35,13 +35,12 @@ pub fn fingerprint(seed: u32, body: &[u8]) -> Result<Column, Refusal>
     Ok(fingerprint_at(Column::from_seed(seed), body))
 }
 
-// What `fingerprint` promises fixes its answer.
+/// What `fingerprint` promises fixes its answer.
 pub fn one_answer()
     ensures { (seed : ℕ) (body : List ℕ) (a b : Result FieldColumn Refusal) → answer.numbers_of a ≡ answer.fingerprinted seed body → answer.numbers_of b ≡ answer.fingerprinted seed body → a ≡ b }
-{
-}
+{}
 
-// The fingerprint of a body of any length at a seed column.
+/// The fingerprint of a body of any length at a seed column.
 pub fn fingerprint_at(seed: Column, body: &[u8]) -> Column
     ensures { result ≡ print.fingerprint_at seed body.now }
 {
@@ -49,8 +48,8 @@ pub fn fingerprint_at(seed: Column, body: &[u8]) -> Column
     SeedTable::new(seed, &mut room).fingerprint(body)
 }
 
-// A seed column and the table of its square, for the fingerprints of many bodies at that seed. The table is lent, so that no copy
-// of it is ever made.
+/// A seed column and the table of its square, for the fingerprints of many bodies at that seed. The table is lent, so that no copy
+/// of it is ever made.
 #[derive(Clone, Copy)]
 pub struct SeedTable<'a> {
     seed: Column,
@@ -60,7 +59,7 @@ pub struct SeedTable<'a> {
 }
 
 impl<'a> SeedTable<'a> {
-    // The table is put into `room`.
+    /// The table is put into `room`.
     pub fn new(seed: Column, room: &'a mut [u32; 768]) -> SeedTable<'a>
         ensures { result.seed ≡ seed }
     {
@@ -71,7 +70,7 @@ impl<'a> SeedTable<'a> {
         }
     }
 
-    // The fingerprint of a body of any length; a last column that is not whole is filled with zero bytes.
+    /// The fingerprint of a body of any length; a last column that is not whole is filled with zero bytes.
     pub fn fingerprint(&self, body: &[u8]) -> Column
         ensures { result ≡ print.fingerprint_at self.now.seed body.now }
     {
@@ -79,7 +78,7 @@ impl<'a> SeedTable<'a> {
     }
 }
 
-// For each byte k the multiples by k of y, of x y and of x^2 y.
+/// For each byte k the multiples by k of y, of x y and of x^2 y.
 pub fn table(y: Column) -> [u32; 768]
     ensures { result ≡ horner.table_of y }
 {
@@ -129,8 +128,8 @@ fn fill(out: &mut [u32], a: &[u8; 256], b: &[u8; 256], c: &[u8; 256])
     }
 }
 
-// Horner's rule from the last column to the first, with a table of y^2: two values in turn, so that a lookup waits for the one
-// before the last. A last column that is not whole is filled with zero bytes.
+/// Horner's rule from the last column to the first, with a table of y^2: two values in turn, so that a lookup waits for the one
+/// before the last. A last column that is not whole is filled with zero bytes.
 pub fn evaluated(table: &[u32; 768], y: Column, body: &[u8]) -> Column
     ensures { result ≡ horner.evaluated table.now y (print.columns_of body.now) }
 {
@@ -179,7 +178,7 @@ fn unpacked(value: u32) -> Column
     Column { a, b, c }
 }
 
-// The combination of the fingerprints, three bytes each, by body i's own coefficients: below m that is the fingerprint of body i itself.
+/// The combination of the fingerprints, three bytes each, by body i's own coefficients: below m that is the fingerprint of body i itself.
 pub fn called_for(m: u8, i: u8, prints: &[u8]) -> Column
     ensures { result ≡ print.called_for m i (print.columns_of prints.now) }
 {

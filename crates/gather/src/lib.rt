@@ -1,5 +1,5 @@
-// Gathering: `gather` reads records end to end, in order, and finds the first m that a join can use: accepted, with different indexes.
-// `stride` is how long each of the records is. No public function asks anything of its caller.
+//! Gathering: `gather` reads records end to end, in order, and finds the first m that a join can use: accepted, with different indexes.
+//! `stride` is how long each of the records is. No public function asks anything of its caller.
 #![tactic(auto)]
 
 ghost use Rattle.std.specs.Prelude.{◌≡◌};
@@ -8,21 +8,21 @@ ghost use Rattle.gather.specs.Gather as gathering;
 use arrayvec::ArrayVec;
 use inspect::Verdict;
 
-// A record that is used: its index, and its place among the records, from 0.
+/// A record that is used: its index, and its place among the records, from 0.
 #[derive(Clone, Copy, Debug, PartialEq, Eq, Default)]
 pub struct Used {
     pub index: u8,
     pub place: usize,
 }
 
-// How many records were read, and those that are used, in the order in which they were read.
+/// How many records were read, and those that are used, in the order in which they were read.
 #[derive(Drop)]
 pub struct Gathered {
     pub read: usize,
     pub used: ArrayVec<Used, 255>,
 }
 
-// How long each record is that belongs to this check record.
+/// How long each record is that belongs to this check record.
 #[tactic(auto, using(crate::proofs::Places::stride_fits, crate::proofs::Places::stride_is))]
 pub fn stride(check: &[u8]) -> usize
     ensures { result ≡ gathering.stride check.now }
@@ -31,7 +31,7 @@ pub fn stride(check: &[u8]) -> usize
     record::body_place(head.version) + code::body_length(head.length, head.m)
 }
 
-// Stops at the m-th record that it uses, or at the end. What is left over behind the last whole record is not read.
+/// Stops at the m-th record that it uses, or at the end. What is left over behind the last whole record is not read.
 #[tactic(auto, using(crate::proofs::Places::some_stride, crate::proofs::Whole::starts))]
 pub fn gather(wanted: u64, check: &[u8], records: &[u8]) -> Gathered
     ensures { result ≡ gathering.gathered wanted check.now records.now }

@@ -1,4 +1,4 @@
-// The tests by which a body is refused by 11 and 12, against a check record that is shaped as it should be.
+//! The tests by which a body is refused by 11 and 12, against a check record that is shaped as it should be.
 ghost use Rattle.std.specs.Prelude.{◌≡◌, true, ◌<◌};
 ghost use Rattle.record.specs.Heads as heads;
 ghost use Rattle.inspect.specs.Check as inspection;

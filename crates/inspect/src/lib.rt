@@ -1,5 +1,5 @@
-// The check of one fragment against its check record, `check`, and the body of an accepted one, `open`.
-// Any bytes at all give a verdict: no public function asks anything of its caller.
+//! The check of one fragment against its check record, `check`, and the body of an accepted one, `open`.
+//! Any bytes at all give a verdict: no public function asks anything of its caller.
 #![tactic(auto)]
 
 mod agree;
@@ -12,7 +12,7 @@ ghost use Rattle.inspect.specs.Check.{checked, opened, opened_place};
 
 use agree::{hash_agrees, print_agrees};
 
-// Why a fragment is refused, in document 01's order. An enum of its own, and within the verdict: document 01's list of forms names both.
+/// Why a fragment is refused, in document 01's order. An enum of its own, and within the verdict: document 01's list of forms names both.
 #[derive(Clone, Copy, Debug, PartialEq, Eq, Hash)]
 pub enum Reason {
     CheckMark,
@@ -25,15 +25,15 @@ pub enum Reason {
     Fingerprint,
 }
 
-// What a check answers: the index of an accepted fragment, or why it is refused.
+/// What a check answers: the index of an accepted fragment, or why it is refused.
 #[derive(Clone, Copy, Debug, PartialEq, Eq, Hash)]
 pub enum Verdict {
     Accepted(u8),
     Refused(Reason),
 }
 
-// The first reason of document 01's table that applies. No length, byte or number is trusted before it is tested.
-// The tests give no value, so a `Result` with `?` inside would be no plainer than these returns, and a `match` longer.
+/// The first reason of document 01's table that applies. No length, byte or number is trusted before it is tested.
+/// The tests give no value, so a `Result` with `?` inside would be no plainer than these returns, and a `match` longer.
 #[tactic(auto, unfolding(crate::specs::Check::checked, crate::specs::Check::conditions, crate::specs::Check::first_answer, crate::specs::Check::size_of, crate::specs::Check::body_of), using(crate::proofs::Shaped::body_lies_within))]
 pub fn check(wanted: u64, check: &[u8], fragment: &[u8]) -> Verdict
     ensures { answer result ≡ checked wanted check.now fragment.now }
@@ -70,7 +70,7 @@ pub fn check(wanted: u64, check: &[u8], fragment: &[u8]) -> Verdict
     Verdict::Accepted(f.index)
 }
 
-// The body of an accepted fragment, a part of the lent record; where the check refuses, the empty part at the record's start.
+/// The body of an accepted fragment, a part of the lent record; where the check refuses, the empty part at the record's start.
 #[tactic(auto, unfolding(crate::specs::Check::opened, crate::specs::Check::opened_place, crate::specs::Check::body_of), using(crate::proofs::Opening::no_zero, crate::proofs::Opening::body_fits))]
 pub fn open<'a>(wanted: u64, check: &[u8], fragment: &'a [u8]) -> &'a [u8]
     ensures bytes { result.now ≡ opened wanted check.now fragment.now }

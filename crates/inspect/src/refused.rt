@@ -1,4 +1,4 @@
-// A reason as the refusal of the same number, for callers that answer for more than a check.
+//! A reason as the refusal of the same number, for callers that answer for more than a check.
 ghost use Rattle.std.specs.Prelude.{◌≡◌};
 ghost use Rattle.refusal.specs.Number.{number_of, values_of};
 ghost use Rattle.inspect.specs.Answer.{reason_answer};

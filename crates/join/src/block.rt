@@ -1,4 +1,4 @@
-// Parts of the padded block, from the bodies at hand: the fill, which is only looked at, and the block itself.
+//! Parts of the padded block, from the bodies at hand: the fill, which is only looked at, and the block itself.
 ghost use Rattle.std.specs.Prelude.{◌≡◌, cond, ◌+◌, ◌-◌, ◌*◌, ◌^◌, ◌<◌, ◌≤◌, ◌==◌};
 ghost use lib.ListN.{length};
 ghost use Rattle.algebra.specs.Several.{listed};

@@ -1,5 +1,5 @@
-// Joining a block: `join` gives it back from any m of its fragment records, whatever lies between them.
-// No public function asks anything of its caller; on a refusal the output holds what it held.
+//! Joining a block: `join` gives it back from any m of its fragment records, whatever lies between them.
+//! No public function asks anything of its caller; on a refusal the output holds what it held.
 #![tactic(auto)]
 
 mod block;
@@ -15,8 +15,8 @@ ghost use Rattle.join.specs.Join as joining;
 use refusal::{Counts, Refusal};
 use sources::Sources;
 
-// Refused by 5, 6, 7, 4, 13 or 14, the first that applies; with 13, 14 and where it is done, how many records were read, and how many
-// different indexes were accepted.
+/// Refused by 5, 6, 7, 4, 13 or 14, the first that applies; with 13, 14 and where it is done, how many records were read, and how many
+/// different indexes were accepted.
 pub fn join(wanted: u64, check: &[u8], records: &[u8], out: &mut [u8]) -> Result<Counts, Refusal>
     ensures value { joining.numbers_of result ≡ joining.join_answer wanted check.now records.now out.old }
     ensures out_after { out.new ≡ joining.join_output wanted check.now records.now out.old }
@@ -53,7 +53,7 @@ pub fn join(wanted: u64, check: &[u8], records: &[u8], out: &mut [u8]) -> Result
     Ok(counts)
 }
 
-// The promise is in numbers, and these fix the answer.
+/// The promise is in numbers, and these fix the answer.
 #[tactic(auto, using(crate::proofs::Outcome::one_answer))]
 pub fn one_answer()
     ensures { (a b : Result Counts Refusal) → joining.numbers_of a ≡ joining.numbers_of b → a ≡ b }

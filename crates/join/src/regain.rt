@@ -1,4 +1,4 @@
-// A body of the block, from the bodies at hand.
+//! A body of the block, from the bodies at hand.
 ghost use Rattle.std.specs.Prelude.{◌≡◌, map, ◌+◌, ◌*◌, ◌≤◌, length, get_or, replicate};
 ghost use Rattle.algebra.specs.Several.{listed};
 ghost use Rattle.algebra.specs.Combination.{combined, itself};

@@ -1,4 +1,4 @@
-// The records that a join uses: where they lie, and what the weights of their bodies are made from.
+//! The records that a join uses: where they lie, and what the weights of their bodies are made from.
 ghost use Rattle.std.specs.Prelude.{◌≡◌, map, length};
 ghost use Rattle.std.proofs.Props.{props};
 ghost use Rattle.join.specs.Fit.{Fit, all_prop, distinct_prop};

@@ -1,4 +1,4 @@
-// When a join is refused before it looks at the records.
+//! When a join is refused before it looks at the records.
 ghost use Rattle.std.specs.Prelude.{◌≡◌, cond, eqb};
 ghost use Rattle.refusal.specs.Number.{number_in};
 ghost use Rattle.record.specs.Heads as heads;

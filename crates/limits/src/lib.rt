@@ -1,4 +1,4 @@
-// The bounds of document 01, each once: constants only. `specs/Limits` has the same numbers for contracts.
+//! The bounds of document 01, each once: constants only. `specs/Limits` has the same numbers for contracts.
 #![tactic(auto)]
 
 pub const MOST_FRAGMENTS: u32 = 64;

@@ -1,5 +1,5 @@
-// Runs all products and all inverses of bytes against a second way of computing them, and prints how many agree.
-// The second way takes nothing from a table: long multiplication without carries, and long division by 11b.
+//! Runs all products and all inverses of bytes against a second way of computing them, and prints how many agree.
+//! The second way takes nothing from a table: long multiplication without carries, and long division by 11b.
 #![tactic(auto)]
 
 ghost use Rattle.std.specs.Prelude.{◌≤◌};

@@ -1,9 +1,9 @@
-// The two records of document 01, written and read.
-// `CHECK_MARK`, `FRAGMENT_MARK`, `WRITTEN_VERSION`, and by version the places and lengths: `hash_place`, `prints_place`, `check_length`, `body_place`, `record_length`.
-// Reading: `byte_at`, `block_number_at`, `read_check`, `read_fragment`; what lies past the end reads as zero.
-// The tests that refuse by 1, 5, 6 and 8: `counts_fit`, `check_marked`, `check_shaped`, `fragment_shaped`.
-// Writing: `put`, `write_check_head`, `write_fragment_head`; a buffer that is too short holds what it held.
-// No function asks anything of its caller.
+//! The two records of document 01, written and read.
+//! `CHECK_MARK`, `FRAGMENT_MARK`, `WRITTEN_VERSION`, and by version the places and lengths: `hash_place`, `prints_place`, `check_length`, `body_place`, `record_length`.
+//! Reading: `byte_at`, `block_number_at`, `read_check`, `read_fragment`; what lies past the end reads as zero.
+//! The tests that refuse by 1, 5, 6 and 8: `counts_fit`, `check_marked`, `check_shaped`, `fragment_shaped`.
+//! Writing: `put`, `write_check_head`, `write_fragment_head`; a buffer that is too short holds what it held.
+//! No function asks anything of its caller.
 #![tactic(auto)]
 
 mod places;
@@ -21,7 +21,7 @@ pub use read::{block_number_at, byte_at, read_check, read_fragment};
 pub use shape::{check_marked, check_shaped, counts_fit, fragment_shaped};
 pub use write::{put, write_check_head, write_fragment_head};
 
-// What stands before the hashes of a check record.
+/// What stands before the hashes of a check record.
 #[derive(Clone, Copy, Debug, PartialEq, Eq, Hash)]
 pub struct CheckHead {
     pub version: u16,
@@ -32,7 +32,7 @@ pub struct CheckHead {
     pub seed: Column,
 }
 
-// What stands before the body of a fragment record.
+/// What stands before the body of a fragment record.
 #[derive(Clone, Copy, Debug, PartialEq, Eq, Hash)]
 pub struct FragmentHead {
     pub version: u16,

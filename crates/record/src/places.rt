@@ -1,14 +1,14 @@
-// The versions, and where the parts of the two records stand. What depends on the version goes through `head`; every other place counts
-// from there.
+//! The versions, and where the parts of the two records stand. What depends on the version goes through `head`; every other place counts
+//! from there.
 #![tactic(auto, unfolding(crate::specs::Layout::head))]
 
 ghost use Rattle.std.specs.Prelude.{◌≡◌, ◌+◌, ◌*◌};
 ghost use Rattle.record.specs.Layout as layout;
 
-// The version that new records have.
+/// The version that new records have.
 pub const WRITTEN_VERSION: u16 = 1;
 
-// In every version.
+/// In every version.
 pub const CHECK_MARK: [u8; 3] = *b"LCK";
 
 pub const FRAGMENT_MARK: [u8; 3] = *b"LFR";
@@ -55,14 +55,14 @@ pub(crate) fn hashes_place(version: u16) -> usize
     head(version) + HASHES_BEHIND
 }
 
-// Where the hash of body `index` starts.
+/// Where the hash of body `index` starts.
 pub fn hash_place(version: u16, index: u8) -> usize
     ensures { result ≡ layout.hashes_place version + 32 * index }
 {
     hashes_place(version) + HASH_BYTES * usize::from(index)
 }
 
-// Where the fingerprints start: behind the last of n hashes.
+/// Where the fingerprints start: behind the last of n hashes.
 pub fn prints_place(version: u16, n: u8) -> usize
     ensures { result ≡ layout.prints_place version n }
 {

@@ -1,4 +1,4 @@
-// The records' fields, read. What lies past the end of a record reads as zero.
+//! The records' fields, read. What lies past the end of a record reads as zero.
 ghost use Rattle.std.specs.Prelude.{◌≡◌, ◌+◌, ◌<◌, get_or, map};
 ghost use Rattle.std.specs.List.{range_with_len};
 ghost use Rattle.record.specs.Heads as heads;
@@ -8,14 +8,14 @@ use crate::places::{M_BEHIND, N_BEHIND, NUMBER_AT, SEED_BEHIND, SIZE_BEHIND, VER
 use crate::{CheckHead, FragmentHead};
 use column::Column;
 
-// Zero past the end.
+/// Zero past the end.
 pub fn byte_at(s: &[u8], at: usize) -> u8
     ensures { result ≡ get_or s.now at 0 }
 {
     s.get(at).copied().unwrap_or(0)
 }
 
-// The block number whose eight bytes stand from `at` on.
+/// The block number whose eight bytes stand from `at` on.
 #[tactic(auto, using(crate::proofs::Bytes::eight_bytes))]
 pub fn block_number_at(s: &[u8], at: u8) -> u64
     ensures { result ≡ layout.number_at 8 at s.now }

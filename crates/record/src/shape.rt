@@ -1,4 +1,4 @@
-// The tests by which a cut refuses by 1, and a record is refused by 5, 6 and 8.
+//! The tests by which a cut refuses by 1, and a record is refused by 5, 6 and 8.
 ghost use Rattle.std.specs.Prelude.{◌≡◌};
 ghost use Rattle.record.specs.Heads as heads;
 
@@ -15,7 +15,7 @@ fn marked(mark: [u8; 3], s: &[u8]) -> bool
     bytes_at(s, 0) == mark
 }
 
-// 5 is given unless this holds.
+/// 5 is given unless this holds.
 #[tactic(auto, unfolding(crate::specs::Heads::check_marked))]
 pub fn check_marked(check: &[u8]) -> bool
     ensures { result ≡ heads.check_marked check.now }
@@ -23,7 +23,7 @@ pub fn check_marked(check: &[u8]) -> bool
     NUMBER_AT <= check.len() && marked(CHECK_MARK, check) && known(version_of(check))
 }
 
-// 1 is given unless this holds of a cut's counts, 6 unless it holds of a record's.
+/// 1 is given unless this holds of a cut's counts, 6 unless it holds of a record's.
 #[tactic(auto, unfolding(crate::specs::Heads::counts_fit))]
 pub fn counts_fit(m: u32, n: u32) -> bool
     ensures { result ≡ heads.counts_fit m n }
@@ -31,7 +31,7 @@ pub fn counts_fit(m: u32, n: u32) -> bool
     1 <= m && m <= n && n <= limits::MOST_FRAGMENTS
 }
 
-// 6 is given unless this holds.
+/// 6 is given unless this holds.
 #[tactic(auto, unfolding(crate::specs::Heads::check_shaped))]
 pub fn check_shaped(check: &[u8]) -> bool
     ensures { result ≡ heads.check_shaped check.now }
@@ -43,7 +43,7 @@ pub fn check_shaped(check: &[u8]) -> bool
         && check.len() == check_length(head.version, head.m, head.n)
 }
 
-// 8 is given unless this holds, for the version and the F of the check record.
+/// 8 is given unless this holds, for the version and the F of the check record.
 #[tactic(auto, unfolding(crate::specs::Heads::fragment_shaped))]
 pub fn fragment_shaped(version: u16, size: usize, fragment: &[u8]) -> bool
     ensures { result ≡ heads.fragment_shaped version size fragment.now }

@@ -1,4 +1,4 @@
-// The records' heads, written at the start of a buffer. A buffer that is too short holds what it held.
+//! The records' heads, written at the start of a buffer. A buffer that is too short holds what it held.
 ghost use Rattle.std.specs.Prelude.{◌≡◌, ◌++◌};
 ghost use Rattle.record.specs.Layout.{big};
 ghost use Rattle.record.specs.Records as records;
@@ -7,7 +7,7 @@ ghost use Rattle.record.specs.Put as buffer;
 use crate::places::{CHECK_MARK, FRAGMENT_MARK, NUMBER_AT, VERSION_AT};
 use crate::{CheckHead, FragmentHead};
 
-// Copies the bytes to the start of `out`, where they fit.
+/// Copies the bytes to the start of `out`, where they fit.
 #[tactic(auto, unfolding(crate::specs::Put::put))]
 pub fn put(out: &mut [u8], bytes: &[u8])
     ensures { out.new ≡ buffer.put bytes.now out.old }

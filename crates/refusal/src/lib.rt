@@ -1,5 +1,5 @@
-// Why an operation is refused: each row of document 01's table "What comes back" from 1 on, once, with what it says beside the number.
-// Every operation of this repository that can be refused answers `Result<_, Refusal>`; only the interface to C tells it in numbers.
+//! Why an operation is refused: each row of document 01's table "What comes back" from 1 on, once, with what it says beside the number.
+//! Every operation of this repository that can be refused answers `Result<_, Refusal>`; only the interface to C tells it in numbers.
 #![tactic(auto)]
 
 mod sentence;
@@ -8,14 +8,14 @@ ghost use Rattle.std.specs.Prelude.{◌≡◌};
 ghost use Rattle.refusal.specs.Number.{number_of, values_of};
 ghost use Rattle.refusal.specs.declared.Refusal.{Refusal};
 
-// What a join counts: how many records it read, and how many different indexes it accepted.
+/// What a join counts: how many records it read, and how many different indexes it accepted.
 #[derive(Clone, Copy, Debug, PartialEq, Eq, Hash)]
 pub struct Counts {
     pub read: u64,
     pub indexes: u64,
 }
 
-// In the order of document 01's numbers.
+/// In the order of document 01's numbers.
 #[derive(Clone, Copy, Debug, PartialEq, Eq, Hash)]
 pub enum Refusal {
     CountsOutOfBounds,
@@ -35,7 +35,7 @@ pub enum Refusal {
 }
 
 impl Refusal {
-    // Document 01's number, 1 to 14.
+    /// Document 01's number, 1 to 14.
     pub fn number(self) -> u32
         ensures { result ≡ number_of self }
     {
@@ -57,7 +57,7 @@ impl Refusal {
         }
     }
 
-    // What document 01 gives beside the number: the block number found, or the two counts of a join; 0 where it gives nothing.
+    /// What document 01 gives beside the number: the block number found, or the two counts of a join; 0 where it gives nothing.
     pub fn values(self) -> (u64, u64)
         ensures { result ≡ values_of self }
     {
@@ -69,7 +69,7 @@ impl Refusal {
     }
 }
 
-// A refusal is fixed by its number and what stands beside it, so a promise in numbers fixes the answer.
+/// A refusal is fixed by its number and what stands beside it, so a promise in numbers fixes the answer.
 pub fn one_refusal()
     ensures { (r s : Refusal) → number_of r ≡ number_of s → values_of r ≡ values_of s → r ≡ s }
 {}

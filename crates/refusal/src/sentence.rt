@@ -1,4 +1,4 @@
-// A refusal in words, for logs and messages.
+//! A refusal in words, for logs and messages.
 ghost use Rattle.refusal.specs.Sentence.{sentence_of};
 ghost use Rattle.std.specs.Prelude.{Some};
 

@@ -4,7 +4,6 @@ use native.Mathlib.Omega.{arith}
 use mathlib.Core.Path.{sym, ap, ◌∙◌}
 use Rattle.limits.specs.Limits.{longest_body}
 use Rattle.refusal.specs.declared.Refusal.{Refusal}
-use Rattle.refusal.specs.Number.{number_of}
 use Rattle.refusal.proofs.Outcome.{not_none, one_error}
 use Rattle.sha256.specs.Fips180.{SHA_256}
 use Rattle.sha256.specs.Hash.{Hashed, numbers_of, answered}

@@ -1,4 +1,4 @@
-// The hash value after blocks of 64 bytes: the schedule of words and the 64 turns of each (FIPS 180-4, 6.2.2).
+//! The hash value after blocks of 64 bytes: the schedule of words and the 64 turns of each (FIPS 180-4, 6.2.2).
 ghost use Rattle.std.specs.Prelude.{◌≡◌, ℕ, ◌+◌, ◌%◌, ◌<◌, ◌≤◌, List, length, take, drop, slice_index, slice_index_or, slice_set};
 ghost use Rattle.sha256.specs.declared.State.{State as FipsState};
 ghost use Rattle.sha256.specs.Fips180.{◌⊞◌, σ₀, σ₁, word, K as fips_K, W, turn as fips_turn, turns, next as fips_next, Hᴺ};
@@ -17,7 +17,7 @@ static K: [u32; 64] = [
     0x748f82ee, 0x78a5636f, 0x84c87814, 0x8cc70208, 0x90befffa, 0xa4506ceb, 0xbef9a3f7, 0xc67178f2,
 ];
 
-// The hash value after one block more. Of the schedule only the sixteen words from 16 * i on are kept: word 16 * i + j is w[j].
+/// The hash value after one block more. Of the schedule only the sixteen words from 16 * i on are kept: word 16 * i + j is w[j].
 pub fn step(s: State, block: &[u8; 64]) -> State
     ensures { result ≡ fips_next s block.now }
 {

@@ -1,5 +1,5 @@
-// SHA-256 (FIPS 180-4). `sha256` hashes a body, `digest` any bytes; `start`, `step` and `finish` hash bytes that come in pieces: any
-// number of blocks of 64 bytes, and then the rest. The definitions stand in specs/, in the standard's order and by its names.
+//! SHA-256 (FIPS 180-4). `sha256` hashes a body, `digest` any bytes; `start`, `step` and `finish` hash bytes that come in pieces: any
+//! number of blocks of 64 bytes, and then the rest. The definitions stand in specs/, in the standard's order and by its names.
 #![tactic(auto)]
 
 mod block;
@@ -15,7 +15,7 @@ pub use block::step;
 use refusal::Refusal;
 pub use tail::finish;
 
-// A hash value: eight words, H0 to H7 of the standard, and its working variables in the turns of a block.
+/// A hash value: eight words, H0 to H7 of the standard, and its working variables in the turns of a block.
 #[derive(Clone, Copy, Debug, PartialEq, Eq)]
 pub struct State {
     pub a: u32,
@@ -28,7 +28,7 @@ pub struct State {
     pub h: u32,
 }
 
-// The digest of a body; one longer than the longest body is refused by 2.
+/// The digest of a body; one longer than the longest body is refused by 2.
 pub fn sha256(body: &[u8]) -> Result<[u8; 32], Refusal>
     ensures { numbers_of result ≡ answered body.now }
 {
@@ -38,14 +38,14 @@ pub fn sha256(body: &[u8]) -> Result<[u8; 32], Refusal>
     Ok(digest(body))
 }
 
-// The digest of bytes of any length.
+/// The digest of bytes of any length.
 pub fn digest(message: &[u8]) -> [u8; 32]
     ensures { result ≡ SHA_256 message.now }
 {
     finish(start(), 0, message)
 }
 
-// The hash value of no block.
+/// The hash value of no block.
 pub fn start() -> State
     ensures { result ≡ H⁰ }
 {
@@ -61,8 +61,7 @@ pub fn start() -> State
     }
 }
 
-// What `sha256` promises fixes its answer.
+/// What `sha256` promises fixes its answer.
 pub fn one_answer()
     ensures { (body : List ℕ) (a b : Result (List ℕ) Refusal) → numbers_of a ≡ answered body → numbers_of b ≡ answered body → a ≡ b }
-{
-}
+{}

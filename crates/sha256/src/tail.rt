@@ -1,4 +1,4 @@
-// The end of a message: what is left past its whole blocks, with the padding after it (FIPS 180-4, 5.1.1), and the digest.
+//! The end of a message: what is left past its whole blocks, with the padding after it (FIPS 180-4, 5.1.1), and the digest.
 ghost use Rattle.std.specs.Prelude.{◌≡◌, ◌*◌, ◌%◌, ◌≤◌, ◌++◌, length};
 ghost use Rattle.sha256.specs.Fips180.{bytes, padding, digest as fips_digest};
 ghost use Rattle.sha256.specs.Hash.{finished};
@@ -6,7 +6,7 @@ ghost use Rattle.sha256.specs.Hash.{finished};
 use crate::State;
 use crate::block::absorb;
 
-// The digest of a message whose first blocks, so many, led to s, and whose other bytes are rest.
+/// The digest of a message whose first blocks, so many, led to s, and whose other bytes are rest.
 pub fn finish(s: State, blocks: u32, rest: &[u8]) -> [u8; 32]
     ensures { result ≡ finished s blocks rest.now }
 {

@@ -1,5 +1,5 @@
-// The six functions on words of 32 bits (FIPS 180-4, 4.1.2). They are written with the fewest operations: a rotation by 13 is
-// one by 2 of one by 11. `proofs/Shorter.antt` shows that they are the standard's.
+//! The six functions on words of 32 bits (FIPS 180-4, 4.1.2). They are written with the fewest operations: a rotation by 13 is
+//! one by 2 of one by 11. `proofs/Shorter.antt` shows that they are the standard's.
 ghost use Rattle.std.specs.Prelude.{◌≡◌};
 ghost use Rattle.sha256.specs.Fips180.{Ch as fips_Ch, Maj as fips_Maj, Σ₀, Σ₁, σ₀, σ₁};
 

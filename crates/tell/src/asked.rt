@@ -1,4 +1,4 @@
-// What an input asks for, where it is neither too short nor too long.
+//! What an input asks for, where it is neither too short nor too long.
 ghost use Rattle.std.specs.Prelude.{◌≤◌, length};
 
 // A cut of a block; `tell` takes at most 512 bytes.

@@ -1,4 +1,4 @@
-// Cutting a block and telling of it: a refusal, or all lines.
+//! Cutting a block and telling of it: a refusal, or all lines.
 ghost use Rattle.std.specs.Prelude.{◌≡◌, [], ◌*◌, ◌≤◌, length};
 ghost use Rattle.code.specs.Cutting as cutting;
 ghost use Rattle.record.specs.Layout as layout;

@@ -1,4 +1,4 @@
-// What the program prints: `tell`, for every input. It asks nothing of its caller.
+//! What the program prints: `tell`, for every input. It asks nothing of its caller.
 #![tactic(auto)]
 
 mod asked;
@@ -24,7 +24,7 @@ const NUMBER_AT: u8 = 5;
 
 const LONGEST: usize = 512;
 
-// Puts the text at the start, where there is room for the longest, and answers how many bytes it has.
+/// Puts the text at the start, where there is room for the longest, and answers how many bytes it has.
 pub fn tell(input: &[u8], text: &mut [u8; 16384]) -> usize
     ensures value { result ≡ length (told.printed input.now) }
     ensures text_after { text.new ≡ told.printed input.now ++ drop result text.old }

@@ -1,4 +1,4 @@
-// The four kinds of line, each added to a text.
+//! The four kinds of line, each added to a text.
 ghost use Rattle.std.specs.Prelude.{◌≡◌, ◌++◌, ◌∷◌, [], ◌+◌, ◌<◌, ◌≤◌};
 ghost use lib.ListN.{length};
 ghost use Rattle.refusal.specs.Number.{number_of};

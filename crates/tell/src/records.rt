@@ -1,4 +1,4 @@
-// What is told of a cut: its check record, its fragments, and a join from the last m of them.
+//! What is told of a cut: its check record, its fragments, and a join from the last m of them.
 ghost use Rattle.std.specs.Prelude.{◌≡◌, ◌++◌, [], ◌+◌, ◌*◌, ◌%◌, ◌≤◌};
 ghost use lib.ListN.{length};
 ghost use Rattle.code.specs.Cutting as cutting;

@@ -1,4 +1,4 @@
-// A text that grows, in a room of its own: bytes, a number, a line behind what it has. What is added has to fit.
+//! A text that grows, in a room of its own: bytes, a number, a line behind what it has. What is added has to fit.
 ghost use Rattle.std.specs.Prelude.{◌≡◌, ◌∷◌, ◌++◌, map, ◌+◌, ◌*◌, ◌≤◌, length, take};
 ghost use Rattle.tell.specs.Lines as lines;
 

@@ -1,5 +1,5 @@
-// Runs SHA-256 on the cases of three files and prints, for each, how many of its cases agree: NIST's short and long
-// messages as they are published, and the lengths around the padding's edges. Nothing here is trusted by a proof.
+//! Runs SHA-256 on the cases of three files and prints, for each, how many of its cases agree: NIST's short and long
+//! messages as they are published, and the lengths around the padding's edges. Nothing here is trusted by a proof.
 #![tactic(auto)]
 
 mod text;

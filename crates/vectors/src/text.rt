@@ -1,8 +1,8 @@
-// Reading a line of a file of cases. What is read is compared and counted by the caller, so the contracts say only
-// what keeps it within the text.
+//! Reading a line of a file of cases. What is read is compared and counted by the caller, so the contracts say only
+//! what keeps it within the text.
 ghost use Rattle.std.specs.Prelude.{◌<◌};
 
-// What follows word, where the line starts with it.
+/// What follows word, where the line starts with it.
 pub fn after<'a>(line: &'a [u8], word: &[u8]) -> Option<&'a [u8]> {
     if !line.starts_with(word) {
         return None;
@@ -10,7 +10,7 @@ pub fn after<'a>(line: &'a [u8], word: &[u8]) -> Option<&'a [u8]> {
     line.get(word.len()..)
 }
 
-// The decimal number that text begins with, or the most that fits.
+/// The decimal number that text begins with, or the most that fits.
 pub fn number(text: &[u8]) -> usize {
     text.iter()
         .map_while(|byte| char::from(*byte).to_digit(10))
@@ -19,7 +19,7 @@ pub fn number(text: &[u8]) -> usize {
         })
 }
 
-// The bytes that the hexadecimal digits at the start of text spell, as many as fill out.
+/// The bytes that the hexadecimal digits at the start of text spell, as many as fill out.
 pub fn unhex(text: &[u8], out: &mut [u8]) {
     let (pairs, _) = text.as_chunks::<2>();
     for (byte, [high, low]) in out.iter_mut().zip(pairs) {

@@ -1,4 +1,4 @@
-// 11 and 12: the hash and the fingerprint of the body. To reach 12 the hash in the check record is that of the body at hand.
+//! 11 and 12: the hash and the fingerprint of the body. To reach 12 the hash in the check record is that of the body at hand.
 use crate::input::Change::{Check, Fragment};
 use crate::records::{HASH_OF_TWIN, HASH_OF_WRONG};
 use crate::told;

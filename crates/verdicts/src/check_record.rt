@@ -1,4 +1,4 @@
-// 5, 6 and 7: the check record, and the wanted number.
+//! 5, 6 and 7: the check record, and the wanted number.
 use crate::input::Change::{Check, CheckLength, Fragment, Wanted};
 use crate::records::PRINTS;
 use crate::told;

@@ -1,4 +1,4 @@
-// 8, 9 and 10: the fragment record.
+//! 8, 9 and 10: the fragment record.
 use crate::input::Change::{Check, Fragment, FragmentLength};
 use crate::records::HASH_OF_NONE;
 use crate::told;

@@ -1,4 +1,4 @@
-// What a check is handed, and what a case changes in it.
+//! What a check is handed, and what a case changes in it.
 use arrayvec::ArrayVec;
 
 // Room for the longest record that is tried.

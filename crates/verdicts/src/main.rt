@@ -1,5 +1,5 @@
-// Runs a check on inputs on each side of each condition of 5 to 12, and prints a line for each: what was changed in the sound records,
-// the number, the value beside it, and how many bytes are opened. The file `stdout` beside src/ holds what document 01 says.
+//! Runs a check on inputs on each side of each condition of 5 to 12, and prints a line for each: what was changed in the sound records,
+//! the number, the value beside it, and how many bytes are opened. The file `stdout` beside src/ holds what document 01 says.
 #![tactic(auto)]
 
 mod body;

@@ -1,4 +1,4 @@
-// Two reasons apply at once: the first is given.
+//! Two reasons apply at once: the first is given.
 use crate::input::Change::{Check, Fragment};
 use crate::told;
 use std::io;

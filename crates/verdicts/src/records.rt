@@ -1,5 +1,5 @@
-// The records of document 01's example and of a body of two columns, and the hashes of other bodies. They were made outside this
-// repository's code: by Python's hashlib, products of bytes by shifting and reducing, and Lagrange's sums over the points.
+//! The records of document 01's example and of a body of two columns, and the hashes of other bodies. They were made outside this
+//! repository's code: by Python's hashlib, products of bytes by shifting and reducing, and Lagrange's sums over the points.
 
 // Block 01 to 06, m = 2, n = 4, seed 256, number 7: head, hashes 0 to 3, fingerprints 0 and 1.
 pub(crate) const CHECK: [u8; 156] = *b"\

@@ -1,4 +1,4 @@
-// A line for each case: what was changed, the number, the value, the bytes opened.
+//! A line for each case: what was changed, the number, the value, the bytes opened.
 use crate::input::{Change, Input};
 use crate::records::{CHECK, FRAGMENT, ONE_CHECK, ONE_FRAGMENT};
 use inspect::Verdict;
