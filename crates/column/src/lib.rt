@@ -95,6 +95,20 @@ impl From<[u8; 3]> for Column {
     }
 }
 
+// The column of the first three bytes in coefficient order, zero where there are fewer.
+impl<'a> From<&'a [u8]> for Column {
+    ghost from_gives = { λ bytes u. u ≡ column.of_bytes bytes.now };
+
+    fn from(bytes: &'a [u8]) -> Column {
+        match bytes {
+            [a, b, c, ..] => Column { a: *a, b: *b, c: *c },
+            [a, b] => Column { a: *a, b: *b, c: 0 },
+            [a] => Column { a: *a, b: 0, c: 0 },
+            [] => Column::ZERO,
+        }
+    }
+}
+
 impl Add for Column {
     type Output = Column;
 

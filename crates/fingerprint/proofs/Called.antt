@@ -16,7 +16,7 @@ use Rattle.field.proofs.Sum.{plus_none, none_plus}
 use Rattle.field.proofs.Product.{none_times, times_none}
 use Rattle.field.proofs.Laws.{times_unit, times_comm}
 use Rattle.column.specs.declared.Column.{Column}
-use Rattle.column.specs.Column.{zero as none, plus, scaled, column_space}
+use Rattle.column.specs.Column.{zero as none, of_bytes, plus, scaled, column_space}
 use Rattle.code.specs.Cutting.{points, coefficient_of}
 use Rattle.code.specs.Shares.{overlaid}
 use Rattle.code.proofs.AtOnce.{coefficients_length}
@@ -43,6 +43,17 @@ print_none l (suc j) h =
       | yes some ↦ ap (λ (cs : List Column). get_or cs (suc j) none) (next_column l 0 some) ∙ print_none (drop 3 l) j (omega (arith, length-drop 3 l))
       | no empty ↦ ap (λ (cs : List Column). get_or cs (suc j) none) (no_column l 0 (omega arith))
     ]
+
+-- both at once: the column of what stands there
+pub print_read : (l : List ℕ) (j : ℕ) → get_or (columns_of l) j none ≡ of_bytes (drop (3 * j) l)
+print_read l j =
+    elim (dec_lt (3 * j) (length l)) [
+      | yes h ↦ print_some l j h ∙ (λ i. record { a = at 0 (3 * j) (omega arith) i; b = at 1 (3 * j + 1) (omega arith) i; c = at 2 (3 * j + 2) (omega arith) i })
+      | no h ↦ print_none l j (omega arith) ∙ sym (ap of_bytes (drop_of_length-le l {i = 3 * j} (omega arith)))
+    ]
+  where
+    at : (k n : ℕ) → 3 * j + k ≡ n → get_or l n 0 ≡ get_or (drop (3 * j) l) k 0
+    at k n e = sym (get_or-drop (3 * j) l k 0 ∙ ap (λ (x : ℕ). get_or l x 0) e)
 
 -- zero columns, and columns by 0 and by 1
 none_scaled : (k : ℕ) → scaled k none ≡ none

@@ -152,7 +152,7 @@ fn last(table: &[u32; 768], rest: &[u8]) -> u32
     if rest.is_empty() {
         return 0;
     }
-    packed(column_at(rest, 0)) ^ looked_up(table, 0)
+    packed(Column::from(rest)) ^ looked_up(table, 0)
 }
 
 // Times the table's seed column: three lookups.
@@ -204,30 +204,12 @@ fn combination(coefficients: &[u8], m: u8, prints: &[u8]) -> Column
 }
 
 // Fingerprint j, the zero column where there is none.
+#[tactic(auto, using(crate::proofs::Called::print_none))]
 fn print_at(prints: &[u8], j: u8) -> Column
     ensures { result ≡ get_or (print.columns_of prints.now) j column.zero }
 {
-    let at = 3 * usize::from(j);
-    if at < prints.len() {
-        return column_at(prints, at);
+    match prints.get(3 * usize::from(j)..) {
+        Some(bytes) => Column::from(bytes),
+        None => Column::ZERO,
     }
-    Column::ZERO
-}
-
-// The three bytes from `at` on, zero where there are none.
-fn column_at(s: &[u8], at: usize) -> Column
-    requires { at < length s.now }
-    ensures { (result.a ≡ get_or s.now at 0) × (result.b ≡ get_or s.now (at + 1) 0) × (result.c ≡ get_or s.now (at + 2) 0) }
-{
-    Column {
-        a: byte_at(s, at),
-        b: byte_at(s, at + 1),
-        c: byte_at(s, at + 2),
-    }
-}
-
-fn byte_at(s: &[u8], at: usize) -> u8
-    ensures { result ≡ get_or s.now at 0 }
-{
-    s.get(at).copied().unwrap_or(0)
 }

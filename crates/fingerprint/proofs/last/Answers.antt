@@ -2,7 +2,6 @@
 use mathlib.Core.Path.{ap, ◌∙◌}
 use native.Mathlib.Omega.{arith}
 use Rattle.std.proofs.lemmas.Bool.Decides.{nat_tests}
-use Rattle.column.proofs.Seed.{column_path}
 use Rattle.fingerprint.specs.Horner.{packed}
 use Rattle.fingerprint.proofs.Steps.{halves_from, even_none, odd_none, even_next}
 use Rattle.fingerprint.proofs.last.Goals as goal
@@ -15,7 +14,6 @@ returns-then-is_empty c =
 pub returns : goal.returns
 unfolding halves_from
 returns c =
-    let e = c.column_at.ensures in
     even_next c.args.table.now c.args.rest.now (λ k. (c.type_inv.rest k).fits) 0 _ _ 0 (grind (arith, nat_tests))
-    (c.packed.ensures ∙ ap packed (column_path _ _ e.0 e.1 e.2)) c.looked_up.ensures
+    (c.packed.ensures ∙ ap packed c.from.ensures) c.looked_up.ensures
     (odd_none c.args.table.now c.args.rest.now 3 (omega arith))
