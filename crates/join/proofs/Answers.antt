@@ -218,9 +218,10 @@ module _ (wanted : ℕ) (check records out : List ℕ) where
           ep-us = ep ∙ ap places used_are
 
           -- the sources fit together
-          pub fit : (spreads : List ℕ) → spreads ≡ map (spread bytes is) is → Fit records step is spreads ps
-          fit spreads es =
+          pub fit : (size : ℕ) → size ≡ size_of check → (spreads : List ℕ) → spreads ≡ map (spread bytes is) is → Fit records step size is spreads ps
+          fit size ez spreads es =
               record {
+                sized = subst₂ ◌≤◌ (sym ez) (sym et) wide;
                 few = omega (arith, ap length ei-us, many, k.fewer, k.few);
                 small = subst (All Small) (sym ei-us) small;
                 different = subst Distinct (sym ei-us) s.different;
@@ -232,11 +233,8 @@ module _ (wanted : ℕ) (check records out : List ℕ) where
 
           module _ (size : ℕ) (es : size ≡ size_of check) where
             -- what `rebuild` asks
-            pub ready : ((length out ≤ length is * size) × (length is * size < length out + 768)) × (size ≤ step)
-            ready = (
-              subst₂ (λ (l : List ℕ) (x : ℕ). (length out ≤ length l * x) × (length l * x < length out + 768)) (sym ei-us) (sym es) roomy,
-              subst₂ ◌≤◌ (sym es) (sym et) wide,
-            )
+            pub ready : (length out ≤ length is * size) × (length is * size < length out + 768)
+            ready = subst₂ (λ (l : List ℕ) (x : ℕ). (length out ≤ length l * x) × (length l * x < length out + 768)) (sym ei-us) (sym es) roomy
 
             fill : listed (length is * size - length out) (λ j. block_byte is ps records step size (length out + j)) ≡ drop c.length (padded wanted check records)
             fill =

@@ -5,13 +5,15 @@ use Rattle.algebra.specs.Several.{All, Distinct}
 use Rattle.field.specs.Byte.{bytes}
 use Rattle.code.specs.Weights.{spread}
 
--- different indexes of bytes, their spreads among them, and as many places, at each of which a whole record lies
-pub record Fit (records : List ℕ) (stride : ℕ) (indexes spreads places : List ℕ) : Type 0 where
+-- different indexes of bytes, their spreads among them, and as many places, at each of which a whole record lies; a body is no longer
+-- than its record
+pub record Fit (records : List ℕ) (stride size : ℕ) (indexes spreads places : List ℕ) : Type 0 where
   pub few : length indexes ≤ 255
   pub small : All (λ i. i < 256) indexes
   pub different : Distinct indexes
   pub spread_out : spreads ≡ map (spread bytes indexes) indexes
   pub same_count : length places ≡ length indexes
+  pub sized : size ≤ stride
   pub whole : All (λ k. k * stride + stride ≤ length records) places
 
 -- that each of these facts holds in one way only

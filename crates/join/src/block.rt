@@ -21,35 +21,34 @@ fn write_run(out: &mut [u8], sources: Sources<'_>, t: u8, at: usize)
 
 // The bytes of the padded block from `first` on, body by body.
 #[tactic(auto, using(code::proofs::Walks::listed_all))]
-fn write_part(out: &mut [u8], sources: Sources<'_>, first: usize, size: usize)
-    requires size_le_stride { (size ≤ sources.stride) × ((first + length out.old ≤ length sources.indexes.now * size) × (length sources.indexes.now * size < 2 ^ 64)) }
-    ensures { let s = sources.entry in out.new ≡ listed (length out.old) (λ k. block_byte s.indexes.now s.places.now s.records.now s.stride size (first + k)) }
+fn write_part(out: &mut [u8], sources: Sources<'_>, first: usize)
+    requires { (first + length out.old ≤ length sources.indexes.now * sources.size) × (length sources.indexes.now * sources.size < 2 ^ 64) }
+    ensures { let s = sources.entry in out.new ≡ listed (length out.old) (λ k. block_byte s.indexes.now s.places.now s.records.now s.stride s.size (first + k)) }
 {
     // A `for` has steps of 1; here a step is what one body has left.
     let mut done = 0;
     while done < out.len() {
-        let t = (first + done) / size;
-        let p = (first + done) % size;
-        let end = done + (size - p).min(out.len() - done);
+        let t = (first + done) / sources.size;
+        let p = (first + done) % sources.size;
+        let end = done + (sources.size - p).min(out.len() - done);
         write_run(
             &mut out[done..end],
             sources,
             t as u8,
-            sources.stride - size + p,
+            sources.stride - sources.size + p,
         );
         done = end;
     }
 }
 
 // Whether the padded block is zero from `length` on: there are fewer than three such bytes for each body.
-fn fill_is_zero(sources: Sources<'_>, length: usize, size: usize) -> bool
-    requires length_len_bound { (length ≤ lib.ListN.length sources.indexes.now * size) × ((lib.ListN.length sources.indexes.now * size < length + 768) × (lib.ListN.length sources.indexes.now * size < 2 ^ 64)) }
-    requires size_le_stride { size ≤ sources.stride }
-    ensures { let s = sources.entry in result ≡ all_zero (listed (lib.ListN.length s.indexes.now * size - length) (λ k. block_byte s.indexes.now s.places.now s.records.now s.stride size (length + k))) }
+fn fill_is_zero(sources: Sources<'_>, length: usize) -> bool
+    requires { (length ≤ lib.ListN.length sources.indexes.now * sources.size) × ((lib.ListN.length sources.indexes.now * sources.size < length + 768) × (lib.ListN.length sources.indexes.now * sources.size < 2 ^ 64)) }
+    ensures { let s = sources.entry in result ≡ all_zero (listed (lib.ListN.length s.indexes.now * s.size - length) (λ k. block_byte s.indexes.now s.places.now s.records.now s.stride s.size (length + k))) }
 {
     let mut room = [0u8; 768];
-    let count = sources.indexes.len() * size - length;
-    write_part(&mut room[..count], sources, length, size);
+    let count = sources.indexes.len() * sources.size - length;
+    write_part(&mut room[..count], sources, length);
     is_zero(&room[..count])
 }
 
@@ -61,15 +60,14 @@ fn is_zero(bytes: &[u8]) -> bool
 }
 
 // The block, for an output as long as it is: false, with nothing written, where the fill is not zero.
-pub(crate) fn rebuild(out: &mut [u8], sources: Sources<'_>, size: usize) -> bool
-    requires out_in_bounds { (length out.old ≤ length sources.indexes.now * size) × (length sources.indexes.now * size < length out.old + 768) }
-    requires size_le_stride { size ≤ sources.stride }
-    ensures value { let s = sources.entry in result ≡ all_zero (listed (length s.indexes.now * size - length out.old) (λ k. block_byte s.indexes.now s.places.now s.records.now s.stride size (length out.old + k))) }
-    ensures out_after { let s = sources.entry in out.new ≡ cond result (listed (length out.old) (block_byte s.indexes.now s.places.now s.records.now s.stride size)) out.old }
+pub(crate) fn rebuild(out: &mut [u8], sources: Sources<'_>) -> bool
+    requires { (length out.old ≤ length sources.indexes.now * sources.size) × (length sources.indexes.now * sources.size < length out.old + 768) }
+    ensures value { let s = sources.entry in result ≡ all_zero (listed (length s.indexes.now * s.size - length out.old) (λ k. block_byte s.indexes.now s.places.now s.records.now s.stride s.size (length out.old + k))) }
+    ensures out_after { let s = sources.entry in out.new ≡ cond result (listed (length out.old) (block_byte s.indexes.now s.places.now s.records.now s.stride s.size)) out.old }
 {
-    let filled = fill_is_zero(sources, out.len(), size);
+    let filled = fill_is_zero(sources, out.len());
     if filled {
-        write_part(out, sources, 0, size);
+        write_part(out, sources, 0);
     }
     filled
 }

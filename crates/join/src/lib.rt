@@ -38,15 +38,16 @@ pub fn join(wanted: u64, check: &[u8], records: &[u8], out: &mut [u8]) -> Result
     let mut spreads = [0u8; 255];
     sources::apart(used, &mut indexes[..count], &mut places[..count]);
     code::each_spread(&indexes[..count], &mut spreads[..count]);
+    let size = code::body_length(head.length, head.m);
     let sources = Sources {
         records,
         stride: gather::stride(check),
+        size,
         indexes: &indexes[..count],
         spreads: &spreads[..count],
         places: &places[..count],
     };
-    let size = code::body_length(head.length, head.m);
-    let rebuilt = block::rebuild(out, sources, size);
+    let rebuilt = block::rebuild(out, sources);
     if !rebuilt {
         return Err(Refusal::Fill(counts));
     }

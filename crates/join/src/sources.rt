@@ -5,15 +5,16 @@ ghost use Rattle.join.specs.Fit.{Fit, all_prop, distinct_prop};
 
 use gather::Used;
 
-// `spreads` and `places` go with `indexes`, entry by entry; record k starts at k x `stride`.
+// `spreads` and `places` go with `indexes`, entry by entry; record k starts at k x `stride`, and its last `size` bytes are its body.
 #[derive(Clone, Copy)]
 pub(crate) struct Sources<'a> {
     pub(crate) records: &'a [u8],
     pub(crate) stride: usize,
+    pub(crate) size: usize,
     pub(crate) indexes: &'a [u8],
     pub(crate) spreads: &'a [u8],
     pub(crate) places: &'a [usize],
-    ghost fit: { Fit records.now stride indexes.now spreads.now places.now } by { Prim.hlevel (all_prop, distinct_prop, props) },
+    ghost fit: { Fit records.now stride size indexes.now spreads.now places.now } by { Prim.hlevel (all_prop, distinct_prop, props) },
 }
 
 // The used records' indexes and places, each by itself, since `code` takes the indexes as bytes.

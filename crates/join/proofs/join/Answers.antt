@@ -37,7 +37,7 @@ invariant_of-sources c =
           (back n (replicate 255 0) c.as_slice-used.ensures.fits c.apart.new.indexes c.apart.auto.indexes ∙ c.apart.ensures.indexes_after)
           (back n (replicate 255 0) c.as_slice-used.ensures.fits c.apart.new.places c.apart.auto.places ∙ c.apart.ensures.places_after)
           c.stride.ensures
-          _
+          _ (size_is c.args.check.now _ c.read_check-head.ensures _ c.body_length-size.ensures) _
           (back n (replicate 255 0) c.as_slice-used.ensures.fits c.each_spread.new.out c.each_spread.auto.out
           ∙ spread_all _ (take n (replicate 255 0)) c.each_spread.new.out (sym (lent n (replicate 255 0) c.as_slice-used.ensures.fits) ∙ back_count n (replicate 255 0) c.as_slice-used.ensures.fits c.apart.new.indexes c.apart.auto.indexes) c.each_spread.ensures);
     }
@@ -54,7 +54,7 @@ rebuild-rebuilt-requires c =
     (back n (replicate 255 0) c.as_slice-used.ensures.fits c.apart.new.places c.apart.auto.places ∙ c.apart.ensures.places_after)
     c.stride.ensures
     _ (size_is c.args.check.now _ c.read_check-head.ensures _ c.body_length-size.ensures) in
-    record { out_in_bounds = both.0; size_le_stride = both.1 }
+    both
 
 pub returns : goal.returns
 returns c =

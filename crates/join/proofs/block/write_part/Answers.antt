@@ -8,11 +8,11 @@ use Rattle.join.proofs.block.write_part.Goals as goal
 
 pub loop-done-preserved : goal.loop-done-preserved
 loop-done-preserved c =
-    let left : let q = c.args.first + c.loop-done.done in (q / c.args.size < length c.args.sources.indexes.now) × (q % c.args.size < c.args.size) = let q = c.args.first + c.loop-done.done in
-    let l : q < length c.args.sources.indexes.now * c.args.size = omega (arith, c.requires.size_le_stride.1.0, c.loop-done.invariant.1.long) in
-    (row (length c.args.sources.indexes.now) c.args.size q l, place (length c.args.sources.indexes.now) c.args.size q l) in (
+    let left : let q = c.args.first + c.loop-done.done in (q / c.args.sources.size < length c.args.sources.indexes.now) × (q % c.args.sources.size < c.args.sources.size) = let q = c.args.first + c.loop-done.done in
+    let l : q < length c.args.sources.indexes.now * c.args.sources.size = omega (arith, c.requires.0, c.loop-done.invariant.1.long) in
+    (row (length c.args.sources.indexes.now) c.args.sources.size q l, place (length c.args.sources.indexes.now) c.args.sources.size q l) in (
       omega (arith, c.min.ensures, c.loop-done.invariant.1.long),
-      run_more c.args.sources.indexes.now c.args.sources.places.now c.args.sources.records.now c.args.sources.stride c.args.size c.args.first _ c.loop-done.done c.min.result c.loop-done.out c.write_run.new.out
+      run_more c.args.sources.indexes.now c.args.sources.places.now c.args.sources.records.now c.args.sources.stride c.args.sources.size c.args.first _ c.loop-done.done c.min.result c.loop-done.out c.write_run.new.out
           (omega (arith, (left).1)) (omega (arith, c.min.ensures, (left).1)) (omega (arith, c.min.ensures, c.loop-done.invariant.1.long))
           c.write_run.ensures c.loop-done.invariant.1,
     )
