@@ -30,7 +30,8 @@ pub fn join(wanted: u64, check: &[u8], records: &[u8], out: &mut [u8]) -> Result
         indexes: count as u64,
     };
     let head = record::read_check(check);
-    if count != head.m as usize {
+    let m = usize::from(head.m);
+    if count != m {
         return Err(Refusal::TooFew(counts));
     }
     let mut indexes = [0u8; 255];

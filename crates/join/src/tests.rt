@@ -35,5 +35,5 @@ fn lengths_fit(check: &[u8], records: &[u8], out: &[u8]) -> bool
     let stride = gather::stride(check);
     out.len() == head.length as usize
         && records.len() % stride == 0
-        && records.len() / stride <= head.n as usize
+        && records.len() / stride <= usize::from(head.n)
 }

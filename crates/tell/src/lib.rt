@@ -36,6 +36,8 @@ pub fn tell(input: &[u8], text: &mut [u8; 16384]) -> usize
     length
 }
 
+// Into an empty text, as `cut_and_tell`, `cut_within` and `add_all`. A text handed back, which would ask nothing, was tried: where the ways
+// of a match meet again, its proof did not close.
 #[tactic(auto, unfolding(crate::specs::Told::printed), using(crate::proofs::Choice::printing))]
 fn print(text: &mut Text, input: &[u8])
     requires { text.old.items ≡ [] }

@@ -19,11 +19,11 @@ returns-in_err-test c =
     let same : c.from_residual.result ≡ Err c.in_err-test.field-0.0 = grind (arith, common_steps) in
     record { value = ap numbers_of same ∙ both.0; out_after = both.1 }
 
-pub returns-then-count-head : goal.returns-then-count-head
-returns-then-count-head c =
+pub returns-then-count-m : goal.returns-then-count-m
+returns-then-count-m c =
     let both = too_few c.args.wanted c.args.check.now c.args.records.now c.args.out.now c.gather-held.result c.gather-held.ensures _ c.as_slice-used.ensures.value
     (passed c.args.wanted c.args.check.now c.args.records.now c.args.out.now c.in_ok-test.ensures)
-    _ (ap (λ (h : CheckHead). h.m) c.read_check-head.ensures) c.if-count-head.true in record { value = with_read both.0 (omega arith); out_after = both.1 }
+    _ (c.from-m.ensures ∙ ap (λ (h : CheckHead). h.m) c.read_check-head.ensures) c.if-count-m.true in record { value = with_read both.0 (omega arith); out_after = both.1 }
 
 pub invariant_of-sources : goal.invariant_of-sources
 invariant_of-sources c =
@@ -32,7 +32,7 @@ invariant_of-sources c =
       fit = fit c.args.wanted c.args.check.now c.args.records.now c.args.out.now c.gather-held.result c.gather-held.ensures _ c.as_slice-used.ensures.value
           (passed c.args.wanted c.args.check.now c.args.records.now c.args.out.now c.in_ok-test.ensures)
           (all_small c.args.records.now (λ k. (c.type_inv.records k).fits))
-          (c.if-count-head.false ∙ ap (λ (h : CheckHead). h.m) c.read_check-head.ensures)
+          (c.if-count-m.false ∙ c.from-m.ensures ∙ ap (λ (h : CheckHead). h.m) c.read_check-head.ensures)
           _ _ _
           (back n (replicate 255 0) c.as_slice-used.ensures.fits c.apart.new.indexes c.apart.auto.indexes ∙ c.apart.ensures.indexes_after)
           (back n (replicate 255 0) c.as_slice-used.ensures.fits c.apart.new.places c.apart.auto.places ∙ c.apart.ensures.places_after)
@@ -48,7 +48,7 @@ rebuild-rebuilt-requires c =
     let both = ready c.args.wanted c.args.check.now c.args.records.now c.args.out.now c.gather-held.result c.gather-held.ensures _ c.as_slice-used.ensures.value
     (passed c.args.wanted c.args.check.now c.args.records.now c.args.out.now c.in_ok-test.ensures)
     (all_small c.args.records.now (λ k. (c.type_inv.records k).fits))
-    (c.if-count-head.false ∙ ap (λ (h : CheckHead). h.m) c.read_check-head.ensures)
+    (c.if-count-m.false ∙ c.from-m.ensures ∙ ap (λ (h : CheckHead). h.m) c.read_check-head.ensures)
     _ _ _
     (back n (replicate 255 0) c.as_slice-used.ensures.fits c.apart.new.indexes c.apart.auto.indexes ∙ c.apart.ensures.indexes_after)
     (back n (replicate 255 0) c.as_slice-used.ensures.fits c.apart.new.places c.apart.auto.places ∙ c.apart.ensures.places_after)
@@ -62,7 +62,7 @@ returns c =
     let both = rebuilt c.args.wanted c.args.check.now c.args.records.now c.args.out.now c.gather-held.result c.gather-held.ensures _ c.as_slice-used.ensures.value
     (passed c.args.wanted c.args.check.now c.args.records.now c.args.out.now c.in_ok-test.ensures)
     (all_small c.args.records.now (λ k. (c.type_inv.records k).fits))
-    (c.if-count-head.false ∙ ap (λ (h : CheckHead). h.m) c.read_check-head.ensures)
+    (c.if-count-m.false ∙ c.from-m.ensures ∙ ap (λ (h : CheckHead). h.m) c.read_check-head.ensures)
     _ _ _
     (back n (replicate 255 0) c.as_slice-used.ensures.fits c.apart.new.indexes c.apart.auto.indexes ∙ c.apart.ensures.indexes_after)
     (back n (replicate 255 0) c.as_slice-used.ensures.fits c.apart.new.places c.apart.auto.places ∙ c.apart.ensures.places_after)
@@ -77,7 +77,7 @@ returns-then-not-rebuilt c =
     let both = rebuilt c.args.wanted c.args.check.now c.args.records.now c.args.out.now c.gather-held.result c.gather-held.ensures _ c.as_slice-used.ensures.value
     (passed c.args.wanted c.args.check.now c.args.records.now c.args.out.now c.in_ok-test.ensures)
     (all_small c.args.records.now (λ k. (c.type_inv.records k).fits))
-    (c.if-count-head.false ∙ ap (λ (h : CheckHead). h.m) c.read_check-head.ensures)
+    (c.if-count-m.false ∙ c.from-m.ensures ∙ ap (λ (h : CheckHead). h.m) c.read_check-head.ensures)
     _ _ _
     (back n (replicate 255 0) c.as_slice-used.ensures.fits c.apart.new.indexes c.apart.auto.indexes ∙ c.apart.ensures.indexes_after)
     (back n (replicate 255 0) c.as_slice-used.ensures.fits c.apart.new.places c.apart.auto.places ∙ c.apart.ensures.places_after)
