@@ -6,7 +6,6 @@
 
 ghost use Rattle.std.specs.Prelude.{◌≡◌};
 ghost use lib.ListN.{length};
-ghost use Rattle.refusal.specs.Number.{number_in};
 ghost use Rattle.sha256.specs.Hash.{answered};
 ghost use Rattle.record.specs.Layout.{column_bytes};
 ghost use Rattle.fingerprint.specs.Answer.{fingerprinted};
@@ -32,7 +31,7 @@ pub fn rwk_cut(
     ensures fragments_after { fragments.new ≡ cutting.held result (cutting.fragments m n number block.now) fragments.old }
     ensures check_after { check.new ≡ cutting.held result (cutting.check m n seed number block.now) check.old }
 {
-    code(cut::cut(m, n, seed, number, block, fragments, check))
+    refusal::number_in(cut::cut(m, n, seed, number, block, fragments, check))
 }
 
 pub fn rwk_cut_standard(
@@ -46,7 +45,7 @@ pub fn rwk_cut_standard(
     ensures fragments_after { fragments.new ≡ cutting.held result (cutting.fragments standard.m standard.n number block.now) fragments.old }
     ensures check_after { check.new ≡ cutting.held result (cutting.check standard.m standard.n seed number block.now) check.old }
 {
-    code(cut::cut_standard(seed, number, block, fragments, check))
+    refusal::number_in(cut::cut_standard(seed, number, block, fragments, check))
 }
 
 pub fn rwk_card_size(length: u64, size: &mut u64) -> u32
@@ -62,16 +61,6 @@ pub fn rwk_card_size(length: u64, size: &mut u64) -> u32
             *size = 0;
             refusal.number()
         }
-    }
-}
-
-// The number of an answer that has no value.
-fn code(answer: Result<(), Refusal>) -> u32
-    ensures { result ≡ number_in answer }
-{
-    match answer {
-        Ok(()) => 0,
-        Err(refusal) => refusal.number(),
     }
 }
 

@@ -1,5 +1,4 @@
 //! Cuts: each refusal on both sides of its bound, the order of the refusals, and the standard setting.
-use refusal::Refusal;
 use std::io;
 
 // A cut of so many bytes 01 into so many bytes of each buffer.
@@ -164,7 +163,7 @@ fn cut(rt: &HostRuntime, case: Case) -> io::Result<()> {
         fragments.get_mut(..records),
         summary.get_mut(..check),
     ) {
-        let number = number(cut::cut(m, n, seed, 7, block, lent, other));
+        let number = refusal::number_in(cut::cut(m, n, seed, 7, block, lent, other));
         println!(rt;
             "cut m, n, seed, L, buffers {m} {n} {seed} {length} {records} {check}: {number} {:02x} {:02x}",
             fragments[0], summary[0]
@@ -179,7 +178,7 @@ fn standard(rt: &HostRuntime, records: usize) -> io::Result<()> {
     let mut summary = [0xee; 430];
     let block = [1, 1, 1, 1, 1, 1];
     if let Some(lent) = fragments.get_mut(..records) {
-        let number = number(cut::cut_standard(0, 7, &block, lent, &mut summary));
+        let number = refusal::number_in(cut::cut_standard(0, 7, &block, lent, &mut summary));
         println!(rt;
             "cut in the standard setting, L, buffers 6 {records} 430: {number} {:02x} {:02x}",
             fragments[0], summary[0]
@@ -194,12 +193,4 @@ fn card_size(rt: &HostRuntime, length: u64) -> io::Result<()> {
         Err(refusal) => (refusal.number(), 0),
     };
     println!(rt; "card size for L {length}: {number} {size}")
-}
-
-// 0 of a cut that is done.
-fn number(answer: Result<(), Refusal>) -> u32 {
-    match answer {
-        Ok(()) => 0,
-        Err(refusal) => refusal.number(),
-    }
 }

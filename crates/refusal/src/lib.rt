@@ -5,7 +5,7 @@
 mod sentence;
 
 ghost use Rattle.std.specs.Prelude.{◌≡◌};
-ghost use Rattle.refusal.specs.Number.{number_of, values_of};
+ghost use Rattle.refusal.specs.Number.{number_in, number_of, values_of};
 ghost use Rattle.refusal.specs.declared.Refusal.{Refusal};
 
 /// What a join counts: how many records it read, and how many different indexes it accepted.
@@ -66,6 +66,16 @@ impl Refusal {
             Refusal::TooFew(counts) | Refusal::Fill(counts) => (counts.read, counts.indexes),
             _ => (0, 0),
         }
+    }
+}
+
+/// The number of an answer without a value: 0 where it is done.
+pub fn number_in(answer: Result<(), Refusal>) -> u32
+    ensures { result ≡ number_in answer }
+{
+    match answer {
+        Ok(()) => 0,
+        Err(refusal) => refusal.number(),
     }
 }
 
