@@ -148,7 +148,7 @@ pub fn rwk_fingerprint(seed: u32, body: &[u8], column: &mut [u8]) -> u32
     ensures column_after { column.new ≡ cutting.held result (column_bytes (fingerprinted seed body.now).column) column.old }
 {
     match fingerprint::fingerprint(seed, body) {
-        Ok(print) => give(&[print.a, print.b, print.c], column),
+        Ok(print) => give(&print.to_bytes(), column),
         Err(refusal) => refusal.number(),
     }
 }

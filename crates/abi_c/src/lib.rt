@@ -1,4 +1,5 @@
 //! The archive that C and Rust link, as `include/ruwekiha.h` declares it: each function of `abi`, with its clauses, under its name.
+//! A crate of its own, since C needs an archive, and a crate is a library or an archive and not both (docs/DECISIONS.md, 34).
 #![tactic(auto)]
 
 ghost use Rattle.std.specs.Prelude.{◌≡◌};

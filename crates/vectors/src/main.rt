@@ -9,7 +9,7 @@ ghost use Rattle.std.specs.Prelude.{◌≤◌, length};
 use std::fs::File;
 use std::io::Read;
 use std::{fs, io};
-use text::{after, number, unhex};
+use text::{number, unhex};
 
 // The length of the case that is being read, and how many cases were read and agreed.
 #[derive(Clone, Copy, Default)]
@@ -64,13 +64,13 @@ fn read_cases(file: &[u8]) -> Tally {
 
 // One line of a case: its length in bits, its message, or its digest, which ends it. A message that there is no room for is passed over.
 fn read_line(line: &[u8], message: &mut [u8], tally: &mut Tally) {
-    if let Some(bits) = after(line, b"Len = ") {
+    if let Some(bits) = line.strip_prefix(b"Len = ") {
         tally.length = number(bits) / 8;
         count_up(message);
     } else if let Some(message) = message.get_mut(..tally.length) {
-        if let Some(digits) = after(line, b"Msg = ") {
+        if let Some(digits) = line.strip_prefix(b"Msg = ") {
             unhex(digits, message);
-        } else if let Some(digits) = after(line, b"MD = ") {
+        } else if let Some(digits) = line.strip_prefix(b"MD = ") {
             end(digits, message, tally);
         }
     }

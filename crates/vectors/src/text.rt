@@ -2,14 +2,6 @@
 //! what keeps it within the text.
 ghost use Rattle.std.specs.Prelude.{◌<◌};
 
-/// What follows word, where the line starts with it.
-pub fn after<'a>(line: &'a [u8], word: &[u8]) -> Option<&'a [u8]> {
-    if !line.starts_with(word) {
-        return None;
-    }
-    line.get(word.len()..)
-}
-
 /// The decimal number that text begins with, or the most that fits.
 pub fn number(text: &[u8]) -> usize {
     text.iter()
@@ -27,7 +19,8 @@ pub fn unhex(text: &[u8], out: &mut [u8]) {
     }
 }
 
-// The value of a hexadecimal digit in lower case, and 0 of any other byte.
+// The value of a hexadecimal digit in lower case, and 0 of any other byte: std's `to_digit` takes upper case too, which these files
+// do not have and this program does not read.
 fn hexadecimal(digit: u8) -> u8
     ensures { result < 16 }
 {
