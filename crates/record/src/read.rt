@@ -42,6 +42,7 @@ pub(crate) fn version_of(s: &[u8]) -> u16
     u16::from_be_bytes(bytes_at(s, VERSION_AT))
 }
 
+// Functions and no `From`: `CheckHead::from(check)` would be the same call under a name that does not say what is read.
 #[tactic(auto, unfolding(crate::specs::Heads::check_head_of, crate::specs::Layout::head, crate::specs::Layout::column_at), using(crate::proofs::Bytes::four_bytes, crate::proofs::Bytes::eight_bytes))]
 pub fn read_check(check: &[u8]) -> CheckHead
     ensures { result ≡ heads.check_head_of check.now }
