@@ -1,9 +1,10 @@
 -- The schedule in a ring of sixteen words, in which each word gives way, after its turn, to the one that is due sixteen turns
 -- later; and the turns over it. Assumes nothing.
-use Rattle.std.proofs.Common.{◌≡◌, ℕ, zero, suc, ◌+◌, ◌-◌, ◌%◌, ◌<◌, ◌≤◌, List, [], ◌∷◌, length, get_or, take, drop, set, sym, refl, ap, ◌∙◌, ap₂, add-zero, add-suc, arith, length-append, take_all, drop-cons, le-ltb}
+use Rattle.std.proofs.Common.{◌≡◌, ℕ, zero, suc, ◌+◌, ◌-◌, ◌*◌, ◌%◌, ◌<◌, ◌≤◌, List, [], ◌∷◌, length, get_or, take, drop, set, sym, refl, ap, ◌∙◌, add-zero, add-suc, arith, length-append, take_all, drop-cons, le-ltb}
 use native.Mathlib.Decide.{le_ind}
 use lib.ListN.{get_or-append}
 use lib.Seq.{get_or_at, take-append-le}
+use Rattle.std.specs.Simd.{first_chunks}
 use Rattle.sha256.specs.declared.State.{State}
 use Rattle.sha256.specs.Fips180.{◌⊞◌, word, σ₀, σ₁, K, Wₜ, W, turn, turns}
 
@@ -79,11 +80,14 @@ length_K = refl
 pub constants : (t : ℕ) → t ≤ 48 → take 16 (drop t K) ≡ listed K 16 t 0
 constants t h = opened K t (omega (arith, length_K))
 
--- the part of the table that is lent for them
-pub lent : (k : List ℕ) (t : ℕ) → k ≡ K → take (t + 16 - t) (drop t k) ≡ take 16 (drop t K)
-lent k t e =
-    let size : t + 16 - t ≡ 16 = omega arith in
-    ap₂ (λ (n : ℕ) (l : List ℕ). take n (drop t l)) size e
+-- row i of the table, as the code keeps it, is the constants of the turns from 16 * i on
+pub row : (i : ℕ) → i < 4 → get_or (first_chunks 16 4 K) i [] ≡ take 16 (drop (16 * i) K)
+unfolding K
+row zero h = refl
+row (suc zero) h = refl
+row (suc (suc zero)) h = refl
+row (suc (suc (suc zero))) h = refl
+row (suc (suc (suc (suc i)))) h = absurd (omega arith)
 
 pub words : (m : List ℕ) (t : ℕ) → t ≤ 48 → take 16 (drop t (W 64 m)) ≡ listed (W 64 m) 16 t 0
 words m t h = opened (W 64 m) t (omega (arith, length_W 64 m))

@@ -6,15 +6,27 @@ ghost use Rattle.sha256.specs.Fips180.{◌⊞◌, σ₀, σ₁, word, K as fips_
 use crate::State;
 use crate::word::{ch, lower_sigma_0, lower_sigma_1, maj, upper_sigma_0, upper_sigma_1};
 
-static K: [u32; 64] = [
-    0x428a2f98, 0x71374491, 0xb5c0fbcf, 0xe9b5dba5, 0x3956c25b, 0x59f111f1, 0x923f82a4, 0xab1c5ed5,
-    0xd807aa98, 0x12835b01, 0x243185be, 0x550c7dc3, 0x72be5d74, 0x80deb1fe, 0x9bdc06a7, 0xc19bf174,
-    0xe49b69c1, 0xefbe4786, 0x0fc19dc6, 0x240ca1cc, 0x2de92c6f, 0x4a7484aa, 0x5cb0a9dc, 0x76f988da,
-    0x983e5152, 0xa831c66d, 0xb00327c8, 0xbf597fc7, 0xc6e00bf3, 0xd5a79147, 0x06ca6351, 0x14292967,
-    0x27b70a85, 0x2e1b2138, 0x4d2c6dfc, 0x53380d13, 0x650a7354, 0x766a0abb, 0x81c2c92e, 0x92722c85,
-    0xa2bfe8a1, 0xa81a664b, 0xc24b8b70, 0xc76c51a3, 0xd192e819, 0xd6990624, 0xf40e3585, 0x106aa070,
-    0x19a4c116, 0x1e376c08, 0x2748774c, 0x34b0bcb5, 0x391c0cb3, 0x4ed8aa4a, 0x5b9cca4f, 0x682e6ff3,
-    0x748f82ee, 0x78a5636f, 0x84c87814, 0x8cc70208, 0x90befffa, 0xa4506ceb, 0xbef9a3f7, 0xc67178f2,
+static K: [[u32; 16]; 4] = [
+    [
+        0x428a2f98, 0x71374491, 0xb5c0fbcf, 0xe9b5dba5, 0x3956c25b, 0x59f111f1, 0x923f82a4,
+        0xab1c5ed5, 0xd807aa98, 0x12835b01, 0x243185be, 0x550c7dc3, 0x72be5d74, 0x80deb1fe,
+        0x9bdc06a7, 0xc19bf174,
+    ],
+    [
+        0xe49b69c1, 0xefbe4786, 0x0fc19dc6, 0x240ca1cc, 0x2de92c6f, 0x4a7484aa, 0x5cb0a9dc,
+        0x76f988da, 0x983e5152, 0xa831c66d, 0xb00327c8, 0xbf597fc7, 0xc6e00bf3, 0xd5a79147,
+        0x06ca6351, 0x14292967,
+    ],
+    [
+        0x27b70a85, 0x2e1b2138, 0x4d2c6dfc, 0x53380d13, 0x650a7354, 0x766a0abb, 0x81c2c92e,
+        0x92722c85, 0xa2bfe8a1, 0xa81a664b, 0xc24b8b70, 0xc76c51a3, 0xd192e819, 0xd6990624,
+        0xf40e3585, 0x106aa070,
+    ],
+    [
+        0x19a4c116, 0x1e376c08, 0x2748774c, 0x34b0bcb5, 0x391c0cb3, 0x4ed8aa4a, 0x5b9cca4f,
+        0x682e6ff3, 0x748f82ee, 0x78a5636f, 0x84c87814, 0x8cc70208, 0x90befffa, 0xa4506ceb,
+        0xbef9a3f7, 0xc67178f2,
+    ],
 ];
 
 /// The hash value after one block more. Of the schedule only the sixteen words from 16 * i on are kept: word 16 * i + j is w[j].
@@ -24,10 +36,9 @@ pub fn step(s: State, block: &[u8; 64]) -> State
     let mut w = first(block);
     let mut v = s;
     for i in 0..3 {
-        let t = 16 * i;
-        v = along(v, &K[t..t + 16], &mut w);
+        v = along(v, &K[i], &mut w);
     }
-    let v = last(v, &K[48..], &w);
+    let v = last(v, &K[3], &w);
     State {
         a: v.a.wrapping_add(s.a),
         b: v.b.wrapping_add(s.b),
@@ -61,8 +72,7 @@ fn first(m: &[u8; 64]) -> [u32; 16]
 
 // Sixteen turns; w goes from the words of these to those of the next sixteen.
 // A straight line and no loop, so that no variable is ever moved: a loop misses the speed asked (docs/DECISIONS.md, 31).
-fn along(s: State, k: &[u32], w: &mut [u32; 16]) -> State
-    requires { length k.now ≡ 16 }
+fn along(s: State, k: &[u32; 16], w: &mut [u32; 16]) -> State
     ensures { (m : List ℕ) (v : FipsState) (t : ℕ) → t ≤ 32 → k.now ≡ take 16 (drop t fips_K) → w.old ≡ take 16 (drop t (W 64 m)) → s ≡ turns t (W 64 m) v → (result ≡ turns (t + 16) (W 64 m) v) × (w.new ≡ take 16 (drop (t + 16) (W 64 m))) }
 {
     let v = turn_and_word(s, k, w, 0);
@@ -85,8 +95,7 @@ fn along(s: State, k: &[u32], w: &mut [u32; 16]) -> State
 }
 
 // The last sixteen turns, after which no word is due; a straight line for the same reason.
-fn last(s: State, k: &[u32], w: &[u32; 16]) -> State
-    requires { length k.now ≡ 16 }
+fn last(s: State, k: &[u32; 16], w: &[u32; 16]) -> State
     ensures { (m : List ℕ) (v : FipsState) (t : ℕ) → t ≤ 48 → k.now ≡ take 16 (drop t fips_K) → w.now ≡ take 16 (drop t (W 64 m)) → s ≡ turns t (W 64 m) v → result ≡ turns (t + 16) (W 64 m) v }
 {
     let v = turn(s, k[0], w[0]);
@@ -109,8 +118,8 @@ fn last(s: State, k: &[u32], w: &[u32; 16]) -> State
 }
 
 // Turn i of sixteen; the word that is due sixteen turns later then takes the place of the one that was read.
-fn turn_and_word(v: State, k: &[u32], w: &mut [u32; 16], i: usize) -> State
-    requires { (length k.now ≡ 16) × (i < 16) }
+fn turn_and_word(v: State, k: &[u32; 16], w: &mut [u32; 16], i: usize) -> State
+    requires { i < 16 }
     ensures value { result ≡ fips_turn v (slice_index k.now i) (slice_index w.old i) }
     ensures w_after { w.new ≡ slice_set w.old i (σ₁ (slice_index w.old ((i + 14) % 16)) ⊞ slice_index_or w.old ((i + 9) % 16) 0 ⊞ σ₀ (slice_index w.old ((i + 1) % 16)) ⊞ slice_index_or w.old i 0) }
 {

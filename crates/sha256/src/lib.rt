@@ -16,7 +16,7 @@ use refusal::Refusal;
 pub use tail::finish;
 
 /// A hash value: eight words, H0 to H7 of the standard, and its working variables in the turns of a block.
-#[derive(Clone, Copy, Debug, PartialEq, Eq)]
+#[derive(Clone, Copy, Debug, PartialEq, Eq, Hash)]
 pub struct State {
     pub a: u32,
     pub b: u32,
@@ -29,6 +29,7 @@ pub struct State {
 }
 
 /// The digest of a body; one longer than the longest body is refused by 2.
+#[tactic(auto, unfolding(crate::specs::Hash::answered))]
 pub fn sha256(body: &[u8]) -> Result<[u8; 32], Refusal>
     ensures { numbers_of result ≡ answered body.now }
 {

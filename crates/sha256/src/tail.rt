@@ -45,6 +45,7 @@ fn fill(out: &mut [u8], rest: &[u8], l: u64)
 }
 
 // The bits of a message of l bytes, as a number of 8 bytes: what they have no room for is dropped.
+#[tactic(auto, unfolding(crate::specs::Fips180::bytes))]
 fn bit_count(l: u64) -> [u8; 8]
     ensures { result ≡ bytes 8 (8 * l) }
 {

@@ -3,12 +3,14 @@
 ghost use Rattle.std.specs.Prelude.{◌≡◌};
 ghost use Rattle.sha256.specs.Fips180.{Ch as fips_Ch, Maj as fips_Maj, Σ₀, Σ₁, σ₀, σ₁};
 
+#[tactic(auto, using(crate::proofs::Shorter::choice))]
 pub(crate) fn ch(x: u32, y: u32, z: u32) -> u32
     ensures { result ≡ fips_Ch x y z }
 {
     ((y ^ z) & x) ^ z
 }
 
+#[tactic(auto, using(crate::proofs::Shorter::majority))]
 pub(crate) fn maj(x: u32, y: u32, z: u32) -> u32
     ensures { result ≡ fips_Maj x y z }
 {

@@ -1,3 +1,4 @@
+-- `sha256::block::first` meets its contract: after t steps the first t words are in place, and after 16 all are. Assumes nothing.
 use Rattle.std.proofs.Common.{◌*◌, ◌∙◌, sym, arith}
 use Rattle.std.proofs.lemmas.List.FromFn.{fill_by_all}
 use Rattle.sha256.specs.Fips180.{word}

@@ -1,6 +1,6 @@
 -- `sha256::block::step` meets its contract. The invariant: w is words 16 * i to 16 * i + 15 of the schedule, and v is what 16 * i turns made of s. Assumes nothing.
 use Rattle.std.proofs.Common.{◌≡◌, ℕ, ◌+◌, ◌*◌, take, drop, refl, subst, ap, ◌∙◌, arith}
-use Rattle.sha256.proofs.Scheduling.{front, lent}
+use Rattle.sha256.proofs.Scheduling.{front, row}
 use Rattle.sha256.specs.Fips180.{K, W, turns, next}
 use Rattle.sha256.proofs.block.step.Goals as goal
 
@@ -14,7 +14,7 @@ loop-i-preserved c =
     let m = c.args.block.now in
     let t = 16 * c.loop-i.i in
     let more : t + 16 ≡ 16 * (c.loop-i.i + 1) = omega arith in
-    let after = c.along-v.ensures m c.args.s t (omega arith) (lent _ t refl) c.loop-i.invariant.0 c.loop-i.invariant.1 in
+    let after = c.along-v.ensures m c.args.s t (omega arith) (row c.loop-i.i (omega arith)) c.loop-i.invariant.0 c.loop-i.invariant.1 in
     subst (λ (n : ℕ). (c.along-v.new.w ≡ take 16 (drop n (W 64 m))) × (c.along-v.result ≡ turns n (W 64 m) c.args.s)) more (after.1, after.0)
 
 pub returns : goal.returns
