@@ -16,9 +16,6 @@ pub record Overlaying (values out₀ : List ℕ) (k : ℕ) (out : List ℕ) : Ty
   pub done : out ≡ paste out₀ 0 values k
 
 module _ (values out₀ : List ℕ) where
-  pub none_over : Overlaying values out₀ 0 out₀
-  none_over = record { long = refl; done = paste-zero out₀ 0 values }
-
   pub one_over : (k : ℕ) (out : List ℕ) (v : ℕ) → k < length values → k < length out₀ → v ≡ get_or values k 0 → Overlaying values out₀ k out
       → Overlaying values out₀ (k + 1) (set out k v)
   one_over k out v hv ho e O =

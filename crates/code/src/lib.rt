@@ -28,6 +28,7 @@ pub fn body_length(length: u32, m: u8) -> usize
 }
 
 /// The points of the first 255 bodies, of which a cut into m takes the first m.
+#[tactic(auto, unfolding(crate::specs::Cutting::points), using(crate::proofs::Walks::listed_all))]
 pub fn points() -> [u8; 255]
     ensures { result ≡ cutting.points 255 }
 {
@@ -39,6 +40,7 @@ pub fn points() -> [u8; 255]
 }
 
 /// The product of t + q over the points q that are not t.
+#[tactic(auto, unfolding(crate::specs::Weights::spread))]
 pub fn spread(points: &[u8], t: u8) -> u8
     ensures { result ≡ weights.spread bytes points.now t }
 {

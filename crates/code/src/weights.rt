@@ -20,6 +20,7 @@ pub fn each_spread(points: &[u8], out: &mut [u8])
 pub fn each_share(points: &[u8], spreads: &[u8], t: u8, out: &mut [u8])
     ensures { out.new ≡ shares.overlaid (shares.shares points.now spreads.now t) out.old }
 {
+    // Two slices and no struct: this is a public function whose promise is total, and a struct's fact would ask something of its caller.
     let whole = field::nodal(points, t);
     for k in 0..points.len().min(spreads.len()).min(out.len()) {
         out[k] = share(whole, points[k], spreads[k], t);

@@ -40,6 +40,7 @@ impl Column {
         [self.a, self.b, self.c]
     }
 
+    // Methods beside the operators, which call them: document 01's list of forms asks for methods with self.
     #[tactic(auto, unfolding(crate::specs::Column::plus))]
     pub fn plus(self, other: Column) -> Column
         ensures { result ≡ column.plus self other }

@@ -63,15 +63,9 @@ pub none_nodal : (ps : List ℕ) (t : ℕ) → product_at (Some 0) ≡ nodal byt
 unfolding nodal
 none_nodal ps t = at_start ∙ sym (ap (λ (l : List ℕ). nodal bytes l t) (drop-length ps))
 
-pub all_nodal : (ps : List ℕ) (k t r : ℕ) → k ≤ 0 → r ≡ nodal bytes (drop k ps) t → r ≡ nodal bytes ps t
-all_nodal ps k t r h e = e ∙ ap (λ (n : ℕ). nodal bytes (drop n ps) t) (let z : k ≡ 0 = omega arith in z)
-
 pub none_spread : (ps : List ℕ) (p t : ℕ) → product_at (Some 0) ≡ spread_but bytes (drop (length ps) ps) p t
 unfolding spread_but
 none_spread ps p t = at_start ∙ sym (ap (λ (l : List ℕ). spread_but bytes l p t) (drop-length ps))
-
-pub all_spread : (ps : List ℕ) (k p t r : ℕ) → k ≤ 0 → r ≡ spread_but bytes (drop k ps) p t → r ≡ spread_but bytes ps p t
-all_spread ps k p t r h e = e ∙ ap (λ (n : ℕ). spread_but bytes (drop n ps) p t) (let z : k ≡ 0 = omega arith in z)
 
 -- a turn: d is the factor, r what was there, s their product
 module _ (ps : List ℕ) (k t : ℕ) (some : 0 < k) (within : k ≤ length ps) (d r s : ℕ) (ed : d ≡ plus t (get_or ps (k - 1) 0)) (es : s ≡ times d r) where

@@ -2,6 +2,7 @@ pub mod Added
 pub mod Additive
 pub mod Byte
 pub mod Cases
+pub mod Entries
 pub mod Growth
 pub mod Inverses
 pub mod Laws

@@ -3,7 +3,7 @@ ghost use Rattle.std.specs.Prelude.{◌≡◌, ◌<◌};
 ghost use Rattle.field.specs.Adding as adding;
 ghost use Rattle.field.specs.Byte as byte;
 
-use crate::tables::{PlaceTable, PowerTable, places, powers};
+use crate::tables::{place, power};
 
 /// Adds `by` times each factor to the sum, byte by byte, as far as both go.
 pub fn add_products(sum: &mut [u8], factors: &[u8], by: u8)
@@ -12,19 +12,17 @@ pub fn add_products(sum: &mut [u8], factors: &[u8], by: u8)
     if by == 0 {
         return;
     }
-    let powers = powers();
-    let places = places();
-    let at = places.of(by);
+    let at = place(by);
     for k in 0..sum.len().min(factors.len()) {
-        sum[k] ^= multiple(&places, &powers, at, factors[k]);
+        sum[k] ^= multiple(at, factors[k]);
     }
 }
 
 // The factor times the power at a place. What is read for 00 says nothing: it is multiplied away, so that no jump hangs on a byte.
-fn multiple(places: &PlaceTable, powers: &PowerTable, at: usize, factor: u8) -> u8
+fn multiple(at: usize, factor: u8) -> u8
     requires { at < 255 }
     ensures { result ≡ byte.times (byte.power 3 at) factor }
 {
     let counts = u8::from(factor != 0);
-    counts * powers.at(at + places.of(factor))
+    counts * power(at + place(factor))
 }

@@ -13,8 +13,9 @@ ghost use Rattle.field.specs.Byte as byte;
 
 pub use adding::add_products;
 pub use many::{nodal, spread_but};
-use tables::{places, powers};
+use tables::{place, power};
 
+#[tactic(auto, unfolding(crate::specs::Byte::plus))]
 pub fn plus(a: u8, b: u8) -> u8
     ensures { result ≡ byte.plus a b }
 {
@@ -27,9 +28,7 @@ pub fn times(a: u8, b: u8) -> u8
     if a == 0 || b == 0 {
         return 0;
     }
-    let powers = powers();
-    let places = places();
-    powers.at(places.of(a) + places.of(b))
+    power(place(a) + place(b))
 }
 
 /// 0 for 0.
@@ -39,9 +38,7 @@ pub fn inverse(a: u8) -> u8
     if a == 0 {
         return 0;
     }
-    let powers = powers();
-    let places = places();
-    powers.at(255 - places.of(a))
+    power(255 - place(a))
 }
 
 /// a times the inverse of b, so 0 where b is 0. Not by `times` and `inverse`, which would read each table twice.
@@ -51,9 +48,7 @@ pub fn quotient(a: u8, b: u8) -> u8
     if a == 0 || b == 0 {
         return 0;
     }
-    let powers = powers();
-    let places = places();
-    powers.at(places.of(a) + (255 - places.of(b)))
+    power(place(a) + (255 - place(b)))
 }
 
 /// Entry x is the product of `by` and x: one lookup for each product by the same byte.
@@ -64,10 +59,9 @@ pub fn row(by: u8) -> [u8; 256]
     if by == 0 {
         return out;
     }
-    let powers = powers();
-    let at = places().of(by);
+    let at = place(by);
     for k in 0..255 {
-        out[usize::from(powers.at(k))] = powers.at(at + k);
+        out[usize::from(power(k))] = power(at + k);
     }
     out
 }

@@ -4,16 +4,15 @@ ghost use Rattle.algebra.specs.Polynomial as polynomial;
 ghost use Rattle.field.specs.Byte as byte;
 
 use crate::plus;
-use crate::tables::{PlaceTable, places, powers};
+use crate::tables::{place, power};
 
 /// The product of t + q over all the points q.
 pub fn nodal(points: &[u8], t: u8) -> u8
     ensures { result ≡ polynomial.nodal byte.bytes points.now t }
 {
-    let places = places();
     let mut product = Some(0);
     for k in (0..points.len()).rev() {
-        product = grown(&places, product, plus(t, points[k]));
+        product = grown(product, plus(t, points[k]));
     }
     settled(product)
 }
@@ -23,19 +22,18 @@ pub fn nodal(points: &[u8], t: u8) -> u8
 pub fn spread_but(points: &[u8], p: u8, t: u8) -> u8
     ensures { result ≡ polynomial.spread_but byte.bytes points.now p t }
 {
-    let places = places();
     let mut product = Some(0);
     for k in (0..points.len()).rev() {
         let q = points[k];
         if p != q {
-            product = grown(&places, product, plus(t, q));
+            product = grown(product, plus(t, q));
         }
     }
     settled(product)
 }
 
 // One factor more: the powers of 03 repeat after 255.
-fn grown(places: &PlaceTable, product: Option<usize>, factor: u8) -> Option<usize>
+fn grown(product: Option<usize>, factor: u8) -> Option<usize>
     requires { IfSome product (λ k. k < 255) }
     ensures bound { IfSome result (λ k. k < 255) }
     ensures value { byte.product_at result ≡ byte.times factor (byte.product_at product) }
@@ -44,7 +42,7 @@ fn grown(places: &PlaceTable, product: Option<usize>, factor: u8) -> Option<usiz
     if factor == 0 {
         return None;
     }
-    let sum = places.of(factor) + product;
+    let sum = place(factor) + product;
     Some(if sum < 255 { sum } else { sum - 255 })
 }
 
@@ -53,7 +51,7 @@ fn settled(product: Option<usize>) -> u8
     ensures { result ≡ byte.product_at product }
 {
     match product {
-        Some(place) => powers().at(place),
+        Some(k) => power(k),
         None => 0,
     }
 }

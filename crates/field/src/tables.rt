@@ -1,52 +1,27 @@
-//! The table of the powers of 03, and the place of each byte in it: each of a type that has the table's rule, which is proved once, where
-//! the constant is read. Reading it is copying it, so a function of many products reads it once.
+//! The table of the powers of 03, and the place of each byte in it. Each has its rule, which is checked once over the whole table
+//! (field/proofs/Entries); the two functions here are the only ones that read them, and nothing is copied.
 ghost use Rattle.std.specs.Prelude.{◌≡◌, ◌≢◌, ◌<◌};
 ghost use Rattle.field.specs.Byte as byte;
 
-#[derive(Drop)]
-pub(crate) struct PowerTable {
-    entries: [u8; 510],
-    ghost rule: { byte.Powers entries },
+// 03 to the power k.
+#[tactic(auto, using(crate::proofs::Entries::powers_hold))]
+pub(crate) fn power(k: usize) -> u8
+    requires { k < 510 }
+    ensures { result ≡ byte.power 3 k }
+{
+    POWERS[k]
 }
 
-#[derive(Drop)]
-pub(crate) struct PlaceTable {
-    entries: [u8; 256],
-    ghost rule: { byte.Places entries },
-}
-
-// The one reader of POWERS.
-pub(crate) fn powers() -> PowerTable {
-    PowerTable { entries: POWERS }
-}
-
-// The one reader of PLACES.
-pub(crate) fn places() -> PlaceTable {
-    PlaceTable { entries: PLACES }
-}
-
-impl PowerTable {
-    // 03 to the power k.
-    pub(crate) fn at(&self, k: usize) -> u8
-        requires { k < 510 }
-        ensures { result ≡ byte.power 3 k }
-    {
-        self.entries[k]
-    }
-}
-
-impl PlaceTable {
-    // The place of a byte. That of 0 says nothing.
-    pub(crate) fn of(&self, a: u8) -> usize
-        ensures { (result < 255) × (a ≢ 0 → byte.power 3 result ≡ a) }
-    {
-        usize::from(self.entries[usize::from(a)])
-    }
+// The place of a byte. That of 0 says nothing.
+pub(crate) fn place(a: u8) -> usize
+    ensures { (result < 255) × (a ≢ 0 → byte.power 3 result ≡ a) }
+{
+    usize::from(PLACES[usize::from(a)])
 }
 
 // Entry k is 03 to the power k. The powers repeat from entry 255 on, so that the sum of two places is a place. A line has 32 entries:
 // entry 255, which is 01, ends the eighth, and entry 509, which is f6, the last.
-const POWERS: [u8; 510] = *b"\
+static POWERS: [u8; 510] = *b"\
     \x01\x03\x05\x0f\x11\x33\x55\xff\x1a\x2e\x72\x96\xa1\xf8\x13\x35\x5f\xe1\x38\x48\xd8\x73\x95\xa4\xf7\x02\x06\x0a\x1e\x22\x66\xaa\
     \xe5\x34\x5c\xe4\x37\x59\xeb\x26\x6a\xbe\xd9\x70\x90\xab\xe6\x31\x53\xf5\x04\x0c\x14\x3c\x44\xcc\x4f\xd1\x68\xb8\xd3\x6e\xb2\xcd\
     \x4c\xd4\x67\xa9\xe0\x3b\x4d\xd7\x62\xa6\xf1\x08\x18\x28\x78\x88\x83\x9e\xb9\xd0\x6b\xbd\xdc\x7f\x81\x98\xb3\xce\x49\xdb\x76\x9a\
@@ -65,7 +40,7 @@ const POWERS: [u8; 510] = *b"\
     \x36\x5a\xee\x29\x7b\x8d\x8c\x8f\x8a\x85\x94\xa7\xf2\x0d\x17\x39\x4b\xdd\x7c\x84\x97\xa2\xfd\x1c\x24\x6c\xb4\xc7\x52\xf6";
 
 // Entry a is the k below 255 with 03 to the power k = a; 0 has none. A line has 32 entries.
-const PLACES: [u8; 256] = *b"\
+static PLACES: [u8; 256] = *b"\
     \x00\x00\x19\x01\x32\x02\x1a\xc6\x4b\xc7\x1b\x68\x33\xee\xdf\x03\x64\x04\xe0\x0e\x34\x8d\x81\xef\x4c\x71\x08\xc8\xf8\x69\x1c\xc1\
     \x7d\xc2\x1d\xb5\xf9\xb9\x27\x6a\x4d\xe4\xa6\x72\x9a\xc9\x09\x78\x65\x2f\x8a\x05\x21\x0f\xe1\x24\x12\xf0\x82\x45\x35\x93\xda\x8e\
     \x96\x8f\xdb\xbd\x36\xd0\xce\x94\x13\x5c\xd2\xf1\x40\x46\x83\x38\x66\xdd\xfd\x30\xbf\x06\x8b\x62\xb3\x25\xe2\x98\x22\x88\x91\x10\

@@ -104,9 +104,6 @@ module _ (cs : List ℕ) (vs : List Column) where
       past : (k : ℕ) → length vs ≤ k → combined column_space (drop k cs) (drop k vs) ≡ none
       past k h = ap (combined column_space (drop k cs)) (drop_of_length-le vs h) ∙ combined_none (drop k cs)
 
-  pub sum_all : (j : ℕ) (sum : Column) → j ≤ 0 → sum ≡ combined column_space (drop j cs) (drop j vs) → sum ≡ combined column_space cs vs
-  sum_all j sum h e = e ∙ ap (λ (n : ℕ). combined column_space (drop n cs) (drop n vs)) (let z : j ≡ 0 = omega arith in z)
-
 -- a combination in which nothing counts, and one in which the i-th counts alone
 nothing_counts : (m : ℕ) (f : ℕ → ℕ) → ((j : ℕ) → j < m → f j ≡ 0) → (vs : List Column) → combined column_space (listed m f) vs ≡ none
 unfolding combined listed

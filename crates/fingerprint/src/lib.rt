@@ -36,6 +36,7 @@ pub fn fingerprint(seed: u32, body: &[u8]) -> Result<Column, Refusal>
 }
 
 /// What `fingerprint` promises fixes its answer.
+#[tactic(auto, using(crate::proofs::Outcome::one_answer))]
 pub fn one_answer()
     ensures { (seed : ℕ) (body : List ℕ) (a b : Result FieldColumn Refusal) → answer.numbers_of a ≡ answer.fingerprinted seed body → answer.numbers_of b ≡ answer.fingerprinted seed body → a ≡ b }
 {}
@@ -104,6 +105,7 @@ fn put_table(out: &mut [u32; 768], y: Column)
 }
 
 // The row of the sum of two bytes, from their rows.
+#[tactic(auto, using(code::proofs::Walks::listed_all))]
 fn sums(a: &[u8; 256], b: &[u8; 256]) -> [u8; 256]
     ensures { result ≡ listed 256 (λ k. plus (get_or a.now k 0) (get_or b.now k 0)) }
 {
@@ -115,6 +117,7 @@ fn sums(a: &[u8; 256], b: &[u8; 256]) -> [u8; 256]
 }
 
 // Puts the columns that three rows hold side by side into 256 places.
+#[tactic(auto, using(code::proofs::Walks::listed_all))]
 fn fill(out: &mut [u32], a: &[u8; 256], b: &[u8; 256], c: &[u8; 256])
     requires { length out.old ≡ 256 }
     ensures { out.new ≡ listed 256 (λ k. horner.packed (record { a = get_or a.now k 0; b = get_or b.now k 0; c = get_or c.now k 0 })) }

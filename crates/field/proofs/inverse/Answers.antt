@@ -9,4 +9,4 @@ pub returns-then-a-eq0 : goal.returns-then-a-eq0
 returns-then-a-eq0 c = sym (ap inverse c.if-a-eq0.true ∙ inverse_none)
 
 pub returns : goal.returns
-returns c = c.at.ensures ∙ power_inverse _ _ c.of.ensures.0 (c.of.ensures.1 c.if-a-eq0.false)
+returns c = c.power.ensures ∙ power_inverse _ _ c.place.ensures.0 (c.place.ensures.1 c.if-a-eq0.false)

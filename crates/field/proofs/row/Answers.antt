@@ -12,8 +12,8 @@ loop-k-init c = start _
 
 pub loop-k-preserved : goal.loop-k-preserved
 loop-k-preserved c =
-    fill_read _ _ _ _ _ _ (c.of-at.ensures.1 c.if-by-eq0.false)
-    (c.from.ensures ∙ c.at-in-loop-k.ensures) c.at.ensures c.loop-k.invariant
+    fill_read _ _ _ _ _ _ (c.place-at.ensures.1 c.if-by-eq0.false)
+    (c.from.ensures ∙ c.power-in-loop-k.ensures) c.power.ensures c.loop-k.invariant
 
 pub returns : goal.returns
 returns c = filled _ _ _ (omega arith) c.loop-k.invariant

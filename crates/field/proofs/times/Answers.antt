@@ -13,4 +13,4 @@ returns-then-a-eq0 c =
     ]
 
 pub returns : goal.returns
-returns c = c.at.ensures ∙ power_times _ _ _ _ (c.of.ensures.1 (omega arith)) (c.of-2.ensures.1 (omega arith))
+returns c = c.power.ensures ∙ power_times _ _ _ _ (c.place.ensures.1 (omega arith)) (c.place-2.ensures.1 (omega arith))

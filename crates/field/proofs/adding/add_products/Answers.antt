@@ -11,7 +11,7 @@ returns-then-by-eq0 c = added_none _ _ _ c.if-by-eq0.true
 pub loop-k-preserved : goal.loop-k-preserved
 loop-k-preserved c =
     add_turn _ _ _ _ _ (omega (arith, c.min-k-end.ensures, c.loop-k.invariant.long)) (omega (arith, c.min-k-end.ensures)) _
-    (c.multiple.ensures ∙ ap₂ times (c.of-at.ensures.1 c.if-by-eq0.false) refl) c.loop-k.invariant
+    (c.multiple.ensures ∙ ap₂ times (c.place-at.ensures.1 c.if-by-eq0.false) refl) c.loop-k.invariant
 
 pub returns : goal.returns
 returns c = add_end _ _ _ _ _ (omega (arith, c.min-k-end.ensures, c.loop-k-test.false, c.loop-k.invariant.long)) c.loop-k.invariant

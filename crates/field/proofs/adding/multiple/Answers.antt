@@ -5,7 +5,7 @@ use Rattle.field.proofs.Lookups.{power_multiple}
 use Rattle.field.proofs.adding.multiple.Goals as goal
 
 counted : goal.returns
-counted c = let read = power_multiple c.args.factor c.args.at c.of.result c.of.ensures.1 in grind (arith, nat_tests, read)
+counted c = let read = power_multiple c.args.factor c.args.at c.place.result c.place.ensures.1 in grind (arith, nat_tests, read)
 
 pub returns : goal.returns
 returns c = counted c

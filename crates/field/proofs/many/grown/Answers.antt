@@ -18,10 +18,10 @@ pub returns-then-sum-lt255-clause-value : goal.returns-then-sum-lt255-clause-val
 returns-then-sum-lt255-clause-value c =
     let is : c.args.product ≡ Some c.in_ok-product.product = grind (arith, common_steps) in
     let bound : c.in_ok-product.product < 255 = search rules in
-    grown_within _ _ _ _ is bound (c.of.ensures.1 c.if-factor-eq0.false) c.if-sum-lt255.true
+    grown_within _ _ _ _ is bound (c.place.ensures.1 c.if-factor-eq0.false) c.if-sum-lt255.true
 
 pub returns-else-sum-lt255-clause-value : goal.returns-else-sum-lt255-clause-value
 returns-else-sum-lt255-clause-value c =
     let is : c.args.product ≡ Some c.in_ok-product.product = grind (arith, common_steps) in
     let bound : c.in_ok-product.product < 255 = search rules in
-    grown_over _ _ _ _ is bound (c.of.ensures.1 c.if-factor-eq0.false) c.of.ensures.0 c.if-sum-lt255.false
+    grown_over _ _ _ _ is bound (c.place.ensures.1 c.if-factor-eq0.false) c.place.ensures.0 c.if-sum-lt255.false

@@ -6,7 +6,7 @@ use Rattle.field.proofs.Growth.{with_place, without}
 use Rattle.field.proofs.many.settled.Goals as goal
 
 pub returns-in-Some : goal.returns-in-Some
-returns-in-Some c = c.at.ensures ∙ sym (ap product_at c.in-Some.is ∙ with_place _ (search rules))
+returns-in-Some c = c.power.ensures ∙ sym (ap product_at c.in-Some.is ∙ with_place _ (search rules))
 
 pub returns-in-None : goal.returns-in-None
 returns-in-None c = sym (ap product_at c.in-None.is ∙ without)
