@@ -15,11 +15,13 @@ ghost use Rattle.refusal.specs.Number.{number_in};
 ghost use Rattle.cut.specs.Cut as cut;
 ghost use Rattle.cut.specs.Standard as standard;
 
-use record::WRITTEN_VERSION;
+use column::Column;
+use record::{CheckHead, WRITTEN_VERSION};
 use refusal::Refusal;
 pub use standard::{card_size, cut_standard};
 
 /// Writes the n records, then their check record from the bodies where they now stand.
+/// The counts, the seed, the number and the buffers each by itself, as the interface to C hands them.
 #[tactic(auto, using(crate::proofs::Refusals::passed, crate::proofs::Records::check_is))]
 pub fn cut(
     m: u32,
@@ -37,7 +39,15 @@ pub fn cut(
     tests::test(m, n, seed, block, fragments, check)?;
     let (m, n) = (m as u8, n as u8);
     fragments::write_fragments(m, n, number, block, fragments);
-    summary::write_check(m, n, seed, number, block.len() as u32, fragments, check);
+    let head = CheckHead {
+        version: WRITTEN_VERSION,
+        number,
+        length: block.len() as u32,
+        m,
+        n,
+        seed: Column::from_seed(seed),
+    };
+    summary::write_check(head, fragments, check);
     Ok(())
 }
 

@@ -1,8 +1,9 @@
 //! The check record of n fragment records, from the bodies where they stand.
-ghost use Rattle.std.specs.Prelude.{◌≡◌, ◌+◌, ◌*◌, ◌≤◌};
+ghost use Rattle.std.specs.Prelude.{◌≡◌, ℕ, ◌+◌, ◌*◌, ◌≤◌};
 ghost use lib.ListN.{length};
 ghost use Rattle.limits.specs.Limits.{longest_block};
 ghost use Rattle.algebra.specs.Several.{listed, end_to_end};
+ghost use Rattle.column.specs.Column.{from_seed};
 ghost use Rattle.code.specs.Cutting as cutting;
 ghost use Rattle.fingerprint.specs.Fingerprint as print;
 ghost use Rattle.sha256.specs.Fips180.{SHA_256};
@@ -15,36 +16,18 @@ use fingerprint::SeedTable;
 use record::{CheckHead, WRITTEN_VERSION};
 
 // Writes the check record of the bodies in n records, whatever they hold.
-pub(crate) fn write_check(
-    m: u8,
-    n: u8,
-    seed: u32,
-    number: u64,
-    length: u32,
-    fragments: &[u8],
-    check: &mut [u8],
-)
-    requires le_m { (1 ≤ m) × (m ≤ n) × (length ≤ longest_block) }
-    requires check_value { lib.ListN.length check.old ≡ layout.check_length layout.written_version m n }
-    ensures { check.new ≡ cut.check_of m n seed number length (cut.body_among (cutting.body_length length m) fragments.now) }
+pub(crate) fn write_check(head: CheckHead, fragments: &[u8], check: &mut [u8])
+    requires version_value { head.version ≡ layout.written_version }
+    requires le_m { (1 ≤ head.m) × (head.m ≤ head.n) × (head.length ≤ longest_block) }
+    requires check_value { length check.old ≡ layout.check_length layout.written_version head.m head.n }
+    ensures { (seed : ℕ) → head.seed ≡ from_seed seed → check.new ≡ cut.check_of head.m head.n seed head.number head.length (cut.body_among (cutting.body_length head.length head.m) fragments.now) }
 {
-    let size = code::body_length(length, m) as u32;
-    let y = Column::from_seed(seed);
-    record::write_check_head(
-        check,
-        CheckHead {
-            version: WRITTEN_VERSION,
-            number,
-            length,
-            m,
-            n,
-            seed: y,
-        },
-    );
+    let size = code::body_length(head.length, head.m) as u32;
+    record::write_check_head(check, head);
     let hashes = record::hash_place(WRITTEN_VERSION, 0);
-    let prints = record::prints_place(WRITTEN_VERSION, n);
-    write_hashes(&mut check[hashes..prints], n, size, fragments);
-    write_prints(&mut check[prints..], m, size, y, fragments);
+    let prints = record::prints_place(WRITTEN_VERSION, head.n);
+    write_hashes(&mut check[hashes..prints], head.n, size, fragments);
+    write_prints(&mut check[prints..], head.m, size, head.seed, fragments);
 }
 
 // Writes the hash of each of n bodies, one after the other.

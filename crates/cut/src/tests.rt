@@ -7,6 +7,7 @@ use record::WRITTEN_VERSION;
 use refusal::Refusal;
 
 // The first of 1, 2, 3 and 4 that applies.
+// The counts, the seed and the buffers each by itself, as the interface to C hands them.
 #[tactic(auto, unfolding(crate::specs::Cut::cut_number, crate::specs::Cut::buffers_fit), using(record::proofs::Counts::counted, code::proofs::Longest::body_length_fits, crate::proofs::Sources::place_fits, record::proofs::Head::head_below))]
 pub(crate) fn test(
     m: u32,

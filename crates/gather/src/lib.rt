@@ -9,7 +9,7 @@ use arrayvec::ArrayVec;
 use inspect::Verdict;
 
 /// A record that is used: its index, and its place among the records, from 0.
-#[derive(Clone, Copy, Debug, PartialEq, Eq, Default)]
+#[derive(Clone, Copy, Debug, PartialEq, Eq, Hash, Default)]
 pub struct Used {
     pub index: u8,
     pub place: usize,

@@ -20,12 +20,14 @@ fn write_run(out: &mut [u8], sources: Sources<'_>, t: u8, at: usize)
 }
 
 // The bytes of the padded block from `first` on, body by body.
+// How far the output goes is each caller's own bound, and no fact about the sources.
 #[tactic(auto, using(code::proofs::Walks::listed_all))]
 fn write_part(out: &mut [u8], sources: Sources<'_>, first: usize)
     requires { (first + length out.old ≤ length sources.indexes.now * sources.size) × (length sources.indexes.now * sources.size < 2 ^ 64) }
     ensures { let s = sources.entry in out.new ≡ listed (length out.old) (λ k. block_byte s.indexes.now s.places.now s.records.now s.stride s.size (first + k)) }
 {
-    // A `for` has steps of 1; here a step is what one body has left.
+    // A turn for each body, of which the first and the last may be parts: a `for` over the bodies would cut both ends off, and divide by a
+    // size that is 0 where the output is empty.
     let mut done = 0;
     while done < out.len() {
         let t = (first + done) / sources.size;

@@ -1,28 +1,20 @@
 //! A body of the block, from the bodies at hand.
-ghost use Rattle.std.specs.Prelude.{◌≡◌, map, ◌+◌, ◌*◌, ◌≤◌, length, get_or, replicate};
+ghost use Rattle.std.specs.Prelude.{◌≡◌, map, ◌+◌, ◌*◌, ◌≤◌, length, get_or};
 ghost use Rattle.algebra.specs.Several.{listed};
 ghost use Rattle.algebra.specs.Combination.{combined, itself};
 ghost use Rattle.field.specs.Byte.{bytes};
 
 use crate::sources::Sources;
 
-// The sum over the used records of what lies from `at` on in each, by its coefficient.
+// The sum over the used records of what lies from `at` on in each, by its coefficient. What counts nothing is passed over, so that a body at
+// hand costs one copy.
+// Its like in cut takes the bodies out of a block: one for both would take a closure with a contract of its own, longer than either.
 pub(crate) fn regain(out: &mut [u8], sources: Sources<'_>, at: usize, by: &[u8])
     requires by_len { length by.now ≡ length sources.places.now }
     requires out_bound { at + length out.old ≤ sources.stride }
     ensures { let s = sources.entry in out.new ≡ listed (length out.old) (λ p. combined (itself bytes) by.now (map (λ k. get_or s.records.now (k * s.stride + (at + p)) 0) s.places.now)) }
 {
     out.fill(0);
-    add_parts(out, sources, at, by);
-}
-
-// Adds the parts to zero bytes. What counts nothing is passed over, so that a body at hand costs one copy.
-fn add_parts(out: &mut [u8], sources: Sources<'_>, at: usize, by: &[u8])
-    requires out_value { out.old ≡ replicate (length out.old) 0 }
-    requires by_len { length by.now ≡ length sources.places.now }
-    requires out_bound { at + length out.old ≤ sources.stride }
-    ensures { let s = sources.entry in out.new ≡ listed (length out.old) (λ p. combined (itself bytes) by.now (map (λ k. get_or s.records.now (k * s.stride + (at + p)) 0) s.places.now)) }
-{
     for k in (0..sources.places.len()).rev() {
         let b = by[k];
         if b != 0 {

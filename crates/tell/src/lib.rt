@@ -25,6 +25,7 @@ const NUMBER_AT: u8 = 5;
 const LONGEST: usize = 512;
 
 /// Puts the text at the start, where there is room for the longest, and answers how many bytes it has.
+/// A lent buffer and its length: this promise, of the buffer's final bytes, is named in docs/PROMISES.md and may not change.
 pub fn tell(input: &[u8], text: &mut [u8; 16384]) -> usize
     ensures value { result ≡ length (told.printed input.now) }
     ensures text_after { text.new ≡ told.printed input.now ++ drop result text.old }

@@ -1,4 +1,5 @@
 //! The four kinds of line, each added to a text.
+//! By bytes and no `write!`: that promises its bytes only where it answers Ok, and `tell` promises every byte.
 ghost use Rattle.std.specs.Prelude.{◌≡◌, ◌++◌, ◌∷◌, [], ◌+◌, ◌<◌, ◌≤◌};
 ghost use lib.ListN.{length};
 ghost use Rattle.refusal.specs.Number.{number_of};

@@ -5,6 +5,7 @@ ghost use Rattle.tell.specs.Lines as lines;
 use arrayvec::ArrayVec;
 
 // As long as the text that is lent to `tell`.
+// How much room is asked differs from line to line, so it stands in each contract; no one fact would say it.
 pub(crate) type Text = ArrayVec<u8, 16384>;
 
 fn add(text: &mut Text, bytes: &[u8])

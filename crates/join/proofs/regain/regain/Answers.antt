@@ -1,14 +1,14 @@
--- `join::regain::add_parts` meets its contract: from the last record to the first.
+-- `join::regain::regain` meets its contract: from the last record to the first.
 use mathlib.Core.Path.{refl}
 use Prim.Native.Nat.{◌+◌, ◌-◌, ◌*◌, ◌≤◌}
 use native.Mathlib.Omega.{arith}
 use lib.ListN.{length, get_or}
 use Rattle.join.proofs.Summing.{summed_none, summed_skip, summed_more, summed_all, within_at, part_long, part_at}
-use Rattle.join.proofs.regain.add_parts.Goals as goal
+use Rattle.join.proofs.regain.regain.Goals as goal
 
 pub loop-k-init : goal.loop-k-init
 loop-k-init c =
-    (summed_none _ _ c.requires.by_len _ _ _ _ refl c.requires.out_value)
+    summed_none _ _ c.requires.by_len _ _ _ _ refl (c.fill.ensures.after (λ y e. e))
 
 pub loop-k-preserved-then-b-ne0 : goal.loop-k-preserved-then-b-ne0
 loop-k-preserved-then-b-ne0 c =
