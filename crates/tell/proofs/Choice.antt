@@ -52,13 +52,20 @@ module _ (m n seed number : ℕ) (block : List ℕ) where
   told_refused refused some e = ap refusal_line e ∙ sym (simp (ne_eqb (cut_refusal m n seed block) 0 (λ z. some (e ∙ z))))
 
   -- the lines of what the cut wrote
-  pub told_shown : 0 ≡ cut_refusal m n seed block → number < 2 ^ 64 → length block < 2 ^ 32
+  pub cut_shown : 0 ≡ cut_refusal m n seed block → number < 2 ^ 64 → length block < 2 ^ 32
       → shown m n seed number (length block) (check m n seed number block) (fragments m n number block) ≡ told m n seed number block
   unfolding shown lines answer_line joined told
-  told_shown e hn hL =
+  cut_shown e hn hL =
       ap₂ (λ (a b : List ℕ). a ++ (b ++ join_line (joined m n seed number block).number (joined m n seed number block).read (length block)))
       (head_lines hn hL) body_lines
       ∙ sym (simp (eq-eqb (cut_refusal m n seed block) 0 (sym e)))
+
+  -- the same of any check record and records that are the cut's
+  pub told_shown : (refused : ℕ) → refused ≡ cut_refusal m n seed block → refused ≡ 0 → number < 2 ^ 64 → length block < 2 ^ 32
+      → (summary records : List ℕ) → summary ≡ check m n seed number block → records ≡ fragments m n number block
+      → shown m n seed number (length block) summary records ≡ told m n seed number block
+  told_shown refused e z hn hL summary records es er =
+      ap₂ (λ (c r : List ℕ). shown m n seed number (length block) c r) es er ∙ cut_shown (sym z ∙ e) hn hL
 
 pub printed_short : (input : List ℕ) → length input < 13 → refusal_line 4 ≡ printed input
 unfolding printed

@@ -2,7 +2,7 @@
 use Rattle.std.proofs.Common.{◌∙◌, arith}
 use Rattle.refusal.proofs.Outcome.{not_none}
 use Rattle.cut.proofs.Refusals.{passed}
-use Rattle.tell.proofs.Choice.{refused_is, told_refused, told_shown}
+use Rattle.tell.proofs.Choice.{refused_is, told_refused, cut_shown}
 use Rattle.tell.proofs.cutting.cut_within.Goals as goal
 
 pub add_all-requires-clause-m_le_n : goal.add_all-requires-clause-m_le_n
@@ -12,7 +12,7 @@ add_all-requires-clause-m_le_n c =
 pub returns-in-Ok : goal.returns-in-Ok
 returns-in-Ok c =
     rw (c.in-Ok.ensures.check_after, c.in-Ok.ensures.fragments_after, c.from.ensures, c.from-2.ensures) at c.add_all.ensures
-    ∙ told_shown c.args.asked.m c.args.asked.n c.args.asked.seed c.args.asked.number c.args.asked.block.now
+    ∙ cut_shown c.args.asked.m c.args.asked.n c.args.asked.seed c.args.asked.number c.args.asked.block.now
     (rw (c.from.ensures, c.from-2.ensures) at c.in-Ok.ensures.value ∙ refused_is _ _ _ _ _ _ c.requires.fragments_len c.requires.check_len)
     (omega (arith, c.ranges.asked)) (omega (arith, c.args.asked.short))
 
