@@ -33,9 +33,9 @@ use Rattle.gather.proofs.Uses.{indexes, Sound, sound}
 use Rattle.gather.proofs.Places.{place_within}
 use Rattle.join.specs.Join.{Joined, numbers_of, all_used, padded, all_zero, lengths_fit, join_number, counted, join_answer, join_output}
 use Rattle.join.specs.Fit.{Fit}
-use Rattle.join.specs.Parts.{block_byte}
+use Rattle.join.specs.Parts.{places, block_byte}
 use Rattle.join.proofs.Tested.{tests}
-use Rattle.join.proofs.Found.{places, take_listed, drop_listed, room, fill_short, block_joined}
+use Rattle.join.proofs.Found.{take_listed, drop_listed, room, fill_short, block_joined}
 
 -- an accepted record's index is below n
 index_of : (wanted : ℕ) (check fragment : List ℕ) → (checked wanted check fragment).number ≡ 0 → (checked wanted check fragment).value < (check_head_of check).n
@@ -77,6 +77,88 @@ counts check shaped =
       few = leb-true _ _ (both_right (leb c.m c.n) _ rest);
       short = leb-true _ _ (both_left (leb c.length longest_block) _ (both_right (counts_fit c.m c.n) _ fit));
     }
+
+-- the block, from records that are used where there are m of them
+module _ (check records out : List ℕ) (tested : (check_shaped check ≡ true) × (lengths_fit check records out ≡ true)) (bytes_are : All Small records)
+    (wanted : ℕ) (seen : List Used) (used_are : seen ≡ all_used wanted check records) (full : length seen ≡ (check_head_of check).m) where
+  abbrev h : CheckHead
+  h = check_head_of check
+
+  abbrev found : List Used
+  found = all_used wanted check records
+
+  k : Counts h
+  k = counts check tested.0
+
+  s : Sound wanted check records (count_of check records) found
+  s = sound wanted check records (count_of check records)
+
+  exact : length out ≡ h.length
+  unfolding lengths_fit
+  exact = eqb-true _ _ (both_left (eqb (length out) h.length) _ tested.1)
+
+  many : length (indexes found) ≡ h.m
+  many = length-map found (λ u. u.index) ∙ sym (ap length used_are) ∙ full
+
+  small : All Small (indexes found)
+  small =
+      all_map Small (λ u. u.index) found
+      (all_both (λ u g a. subst Small a.1 (omega (arith, index_of wanted check _ a.0, k.few))) found s.before s.accepted)
+
+  roomy : (length out ≤ length (indexes found) * size_of check) × (length (indexes found) * size_of check < length out + 768)
+  unfolding size_of
+  roomy =
+      subst₂ (λ (L m : ℕ). (L ≤ m * size_of check) × (m * size_of check < L + 768)) (sym exact) (sym many)
+      (room h.length h.m k.some, omega (arith, fill_short h.length h.m k.some, k.fewer, k.few))
+
+  wide : size_of check ≤ stride check
+  unfolding stride
+  wide = omega arith
+
+  block : padded wanted check records ≡ listed (h.m * size_of check) (block_byte (indexes found) (places found) records (stride check) (size_of check))
+  unfolding padded
+  block = block_joined check records found small s.different bytes_are h.m (omega (arith, k.fewer, k.few))
+
+  -- so many that their indexes have room
+  pub seen_few : length seen ≤ 255
+  seen_few = omega (arith, full, k.fewer, k.few)
+
+  module _ (is : List ℕ) (step size : ℕ) (ei : is ≡ indexes seen) (et : step ≡ stride check) (es : size ≡ size_of check) where
+    ei-us : is ≡ indexes found
+    ei-us = ei ∙ ap indexes used_are
+
+    ep-us : places seen ≡ places found
+    ep-us = ap places used_are
+
+    -- the sources fit together
+    pub fit : (spreads : List ℕ) → spreads ≡ map (spread bytes is) is → Fit records step size is spreads (places seen)
+    fit spreads ez =
+        record {
+          sized = subst₂ ◌≤◌ (sym es) (sym et) wide;
+          few = omega (arith, ap length ei-us, many, k.fewer, k.few);
+          small = subst (All Small) (sym ei-us) small;
+          different = subst Distinct (sym ei-us) s.different;
+          spread_out = ez;
+          same_count = length-map seen (λ u. u.place) ∙ sym (ap length ei ∙ length-map seen (λ u. u.index));
+          whole = subst₂ (λ (l : List ℕ) (t : ℕ). All (λ p. p * t + t ≤ length records) l) (sym ep-us) (sym et)
+              (all_map _ (λ u. u.place) found (all_both (λ u g a. place_within check records u.place (stride check) refl g) found s.before s.accepted));
+        }
+
+    -- what `rebuild` asks
+    pub ready : (length out ≤ length is * size) × (length is * size < length out + 768)
+    ready = subst₂ (λ (l : List ℕ) (x : ℕ). (length out ≤ length l * x) × (length l * x < length out + 768)) (sym ei-us) (sym es) roomy
+
+    -- the fill, and the block
+    pub fill : listed (length is * size - length out) (λ j. block_byte is (places seen) records step size (length out + j)) ≡ drop h.length (padded wanted check records)
+    fill =
+        (λ i. listed (length (ei-us i) * es i - length out) (λ j. block_byte (ei-us i) (ep-us i) records (et i) (es i) (length out + j)))
+        ∙ (λ i. listed (many i * size_of check - exact i) (λ j. block_byte (indexes found) (places found) records (stride check) (size_of check) (exact i + j)))
+        ∙ sym (ap (drop h.length) block ∙ drop_listed h.length (h.m * size_of check) _)
+
+    pub whole : listed (length out) (block_byte is (places seen) records step size) ≡ take h.length (padded wanted check records)
+    whole =
+        (λ i. listed (exact i) (block_byte (ei-us i) (ep-us i) records (et i) (es i)))
+        ∙ sym (ap (take h.length) block ∙ take_listed h.length (h.m * size_of check) _ (subst₂ (λ (L m : ℕ). L ≤ m * size_of check) exact many roomy.0))
 
 module _ (wanted : ℕ) (check records out : List ℕ) where
   abbrev c : CheckHead
@@ -153,7 +235,7 @@ module _ (wanted : ℕ) (check records out : List ℕ) where
   left n e = sym (ap (λ (k : ℕ). cond (eqb k 0) (take c.length (padded wanted check records)) out) e)
 
   module _ (g : Gathered) (eg : g ≡ gathered wanted check records) (seen : List Used) (lent : seen ≡ g.used.items) where
-    used_are : seen ≡ us
+    pub used_are : seen ≡ us
     unfolding gathered
     used_are = lent ∙ ap (λ (h : Gathered). h.used.items) eg
 
@@ -173,100 +255,32 @@ module _ (wanted : ℕ) (check records out : List ℕ) where
           e : join_number wanted check records out ≡ 13
           e = simp (P.marked, P.shaped, P.number, P.fits, ne_eqb (length us) c.m (λ z. ne (count_is ∙ z ∙ sym em)))
 
-      module _ (bytes_are : All Small records) (full : length seen ≡ c.m) where
-        k : Counts c
-        k = counts check P.shaped
+      wanted_is : c.number ≡ wanted
+      wanted_is = eqb-true c.number wanted P.number
 
-        s : Sound wanted check records (count_of check records) us
-        s = sound wanted check records (count_of check records)
+      last_number : length seen ≡ c.m → join_number wanted check records out ≡ cond (all_zero (drop c.length (padded wanted check records))) 0 14
+      unfolding join_number
+      last_number full = simp (P.marked, P.shaped, P.number, P.fits, eq-eqb (length us) c.m (sym count_is ∙ full))
 
-        exact : length out ≡ c.length
-        unfolding lengths_fit
-        exact = eqb-true _ _ (both_left (eqb (length out) c.length) _ P.fits)
+      -- the look at the fill: 0 with the block, or 14 with nothing written
+      pub looked : length seen ≡ c.m → (b : Bool) (after : List ℕ) → b ≡ all_zero (drop c.length (padded c.number check records))
+          → after ≡ cond b (take c.length (padded c.number check records)) out → (x : Bool) → b ≡ x
+          → Goal (record { number = cond x 0 14; read = g.read; indexes = length seen }) after
+      looked full b after eb ea x ex = (
+        told _ _ g.read (length seen) refl e (full_counts x) read_is count_is,
+        ea ∙ (λ i. cond (ex i) (take c.length (padded (wanted_is i) check records)) out) ∙ kept x ∙ left (cond x 0 14) e,
+      )
+        where
+          e : join_number wanted check records out ≡ cond x 0 14
+          e = last_number full ∙ ap {B = ℕ} (λ (z : Bool). cond z 0 14) (sym (ap (λ (w : ℕ). all_zero (drop c.length (padded w check records))) wanted_is) ∙ sym eb ∙ ex)
 
-        many : length (indexes us) ≡ c.m
-        many = length-map us (λ u. u.index) ∙ sym count_is ∙ full
+          full_counts : (z : Bool) → counted (cond z 0 14) ≡ true
+          full_counts true = counted_0
+          full_counts false = counted_14
 
-        small : All Small (indexes us)
-        small =
-            all_map Small (λ u. u.index) us
-            (all_both (λ u h a. subst Small a.1 (omega (arith, index_of wanted check _ a.0, k.few))) us s.before s.accepted)
-
-        roomy : (length out ≤ length (indexes us) * size_of check) × (length (indexes us) * size_of check < length out + 768)
-        unfolding size_of
-        roomy =
-            subst₂ (λ (L m : ℕ). (L ≤ m * size_of check) × (m * size_of check < L + 768)) (sym exact) (sym many)
-            (room c.length c.m k.some, omega (arith, fill_short c.length c.m k.some, k.fewer, k.few))
-
-        wide : size_of check ≤ stride check
-        unfolding stride
-        wide = omega arith
-
-        block : padded wanted check records ≡ listed (c.m * size_of check) (block_byte (indexes us) (places us) records (stride check) (size_of check))
-        unfolding padded
-        block = block_joined check records us small s.different bytes_are c.m (omega (arith, k.fewer, k.few))
-
-        last_number : join_number wanted check records out ≡ cond (all_zero (drop c.length (padded wanted check records))) 0 14
-        unfolding join_number
-        last_number = simp (P.marked, P.shaped, P.number, P.fits, eq-eqb (length us) c.m (sym count_is ∙ full))
-
-        module _ (is ps : List ℕ) (step : ℕ) (ei : is ≡ indexes seen) (ep : ps ≡ places seen) (et : step ≡ stride check) where
-          ei-us : is ≡ indexes us
-          ei-us = ei ∙ ap indexes used_are
-
-          ep-us : ps ≡ places us
-          ep-us = ep ∙ ap places used_are
-
-          -- the sources fit together
-          pub fit : (size : ℕ) → size ≡ size_of check → (spreads : List ℕ) → spreads ≡ map (spread bytes is) is → Fit records step size is spreads ps
-          fit size ez spreads es =
-              record {
-                sized = subst₂ ◌≤◌ (sym ez) (sym et) wide;
-                few = omega (arith, ap length ei-us, many, k.fewer, k.few);
-                small = subst (All Small) (sym ei-us) small;
-                different = subst Distinct (sym ei-us) s.different;
-                spread_out = es;
-                same_count = ap length ep-us ∙ length-map us (λ u. u.place) ∙ sym (ap length ei-us ∙ length-map us (λ u. u.index));
-                whole = subst₂ (λ (l : List ℕ) (t : ℕ). All (λ p. p * t + t ≤ length records) l) (sym ep-us) (sym et)
-                    (all_map _ (λ u. u.place) us (all_both (λ u h a. place_within check records u.place (stride check) refl h) us s.before s.accepted));
-              }
-
-          module _ (size : ℕ) (es : size ≡ size_of check) where
-            -- what `rebuild` asks
-            pub ready : (length out ≤ length is * size) × (length is * size < length out + 768)
-            ready = subst₂ (λ (l : List ℕ) (x : ℕ). (length out ≤ length l * x) × (length l * x < length out + 768)) (sym ei-us) (sym es) roomy
-
-            fill : listed (length is * size - length out) (λ j. block_byte is ps records step size (length out + j)) ≡ drop c.length (padded wanted check records)
-            fill =
-                (λ i. listed (length (ei-us i) * es i - length out) (λ j. block_byte (ei-us i) (ep-us i) records (et i) (es i) (length out + j)))
-                ∙ (λ i. listed (many i * size_of check - exact i) (λ j. block_byte (indexes us) (places us) records (stride check) (size_of check) (exact i + j)))
-                ∙ sym (ap (drop c.length) block ∙ drop_listed c.length (c.m * size_of check) _)
-
-            whole : listed (length out) (block_byte is ps records step size) ≡ take c.length (padded wanted check records)
-            whole =
-                (λ i. listed (exact i) (block_byte (ei-us i) (ep-us i) records (et i) (es i)))
-                ∙ sym (ap (take c.length) block ∙ take_listed c.length (c.m * size_of check) _ (subst₂ (λ (L m : ℕ). L ≤ m * size_of check) exact many roomy.0))
-
-            -- the look at the fill: 0 with the block, or 14 with nothing written
-            pub rebuilt : (b : Bool) (after : List ℕ)
-                → b ≡ all_zero (listed (length is * size - length out) (λ j. block_byte is ps records step size (length out + j)))
-                → after ≡ cond b (listed (length out) (block_byte is ps records step size)) out
-                → (x : Bool) → b ≡ x → Goal (record { number = cond x 0 14; read = g.read; indexes = length seen }) after
-            rebuilt b after eb ea x ex = (
-              told _ _ g.read (length seen) refl e (full_counts x) read_is count_is,
-              ea ∙ (λ i. cond (ex i) (whole i) out) ∙ kept x ∙ left (cond x 0 14) e,
-            )
-              where
-                e : join_number wanted check records out ≡ cond x 0 14
-                e = last_number ∙ ap {B = ℕ} (λ (z : Bool). cond z 0 14) (ap all_zero (sym fill) ∙ sym eb ∙ ex)
-
-                full_counts : (z : Bool) → counted (cond z 0 14) ≡ true
-                full_counts true = counted_0
-                full_counts false = counted_14
-
-                kept : (z : Bool) → cond z (take c.length (padded wanted check records)) out ≡ cond (eqb (cond z 0 14) 0) (take c.length (padded wanted check records)) out
-                kept true = refl
-                kept false = refl
+          kept : (z : Bool) → cond z (take c.length (padded wanted check records)) out ≡ cond (eqb (cond z 0 14) 0) (take c.length (padded wanted check records)) out
+          kept true = refl
+          kept false = refl
 
 -- an answer whose count of records read is this one
 pub with_read : {number read there indexes : ℕ} {answer : Joined} → record { number = number; read = there; indexes = indexes } ≡ answer → read ≡ there

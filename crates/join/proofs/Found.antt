@@ -25,10 +25,7 @@ use Rattle.gather.specs.declared.Used.{Used}
 use Rattle.gather.specs.Gather.{stride, record_at}
 use Rattle.gather.proofs.Uses.{indexes}
 use Rattle.join.specs.Join.{body_with}
-use Rattle.join.specs.Parts.{mixed, block_byte}
-
-abbrev pub places : List Used → List ℕ
-places us = map (λ u. u.place) us
+use Rattle.join.specs.Parts.{places, mixed, block_byte}
 
 -- a part of a list of a function's values
 pub take_listed : (n m : ℕ) (f : ℕ → ℕ) → n ≤ m → take n (listed m f) ≡ listed n f

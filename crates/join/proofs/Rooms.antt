@@ -1,2 +1,2 @@
 -- The front of an array, lent and come back, as `code` has it.
-pub use Rattle.code.proofs.Rooms.{lent, back, back_count, back_within}
+pub use Rattle.code.proofs.Rooms.{lent, back}

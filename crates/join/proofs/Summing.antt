@@ -1,10 +1,10 @@
 -- A sum of parts by their coefficients, from the last to the first: what each byte of it is.
-use mathlib.Core.Path.{◌≡◌, sym, ap, ap₂, ◌∙◌}
-use mathlib.Core.List.{List, map}
-use Prim.Native.Nat.{ℕ, ◌+◌, ◌-◌, ◌*◌, ◌<◌, ◌≤◌}
+use mathlib.Core.Path.{◌≡◌, refl, sym, ap, ap₂, subst, ◌∙◌}
+use mathlib.Core.List.{List, [], ◌∷◌, map}
+use Prim.Native.Nat.{ℕ, zero, suc, ◌+◌, ◌-◌, ◌*◌, ◌<◌, ◌≤◌}
 use native.Mathlib.Nat.{add_assoc}
 use native.Mathlib.Omega.{arith}
-use lib.ListN.{length, get_or, take, drop, replicate, length-take, length-drop, length-replicate, get_or-replicate, drop_of_length-le}
+use lib.ListN.{length, get_or, take, drop, replicate, length-take, length-drop, length-replicate, length-map, get_or-replicate, drop_of_length-le}
 use lib.Seq.{ext_get_or, get_or-take, get_or-drop}
 use Rattle.algebra.specs.Several.{listed, All}
 use Rattle.algebra.specs.Combination.{combined, itself}
@@ -14,6 +14,8 @@ use Rattle.field.specs.Byte.{bytes, plus, times}
 use Rattle.field.proofs.Added.{added_length, added_at}
 use Rattle.field.proofs.Sum.{plus_comm, none_plus}
 use Rattle.field.proofs.Product.{none_times}
+use Rattle.gather.specs.declared.Used.{Used}
+use Rattle.join.specs.Parts.{places}
 use Rattle.code.proofs.Shares.{in_at}
 use Rattle.code.proofs.Walks.{dropped}
 
@@ -76,6 +78,18 @@ module _ (by places : List ℕ) (many : length by ≡ length places) (n : ℕ) (
 pub within_at : (records : List ℕ) (stride : ℕ) (places : List ℕ) → All (λ k. k * stride + stride ≤ length records) places → (k : ℕ) → k < length places
     → get_or places k 0 * stride + stride ≤ length records
 within_at records stride places all k h = all_at _ places all (get_or places k 0) (in_at places k h)
+
+-- the same of used records
+pub place_at : (us : List Used) (k : ℕ) → get_or (places us) k 0 ≡ (get_or us k (record { index = 0; place = 0 })).place
+place_at [] k = refl
+place_at (u ∷ us) zero = refl
+place_at (u ∷ us) (suc k) = place_at us k
+
+pub used_at : (records : List ℕ) (stride : ℕ) (us : List Used) → All (λ k. k * stride + stride ≤ length records) (places us) → (k : ℕ) → k < length us
+    → (get_or us k (record { index = 0; place = 0 })).place * stride + stride ≤ length records
+used_at records stride us all k h =
+    subst (λ (p : ℕ). p * stride + stride ≤ length records) (place_at us k)
+    (within_at records stride (places us) all k (omega (arith, length-map us (λ u. u.place))))
 
 module _ (records : List ℕ) (stride at n : ℕ) (fits : at + n ≤ stride) (place : ℕ) (within : place * stride + stride ≤ length records) where
   abbrev part : List ℕ

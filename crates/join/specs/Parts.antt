@@ -3,6 +3,11 @@ use Rattle.std.specs.Prelude.{List, map, ℕ, ◌+◌, ◌-◌, ◌*◌, ◌/◌
 use Rattle.algebra.specs.Polynomial.{weight}
 use Rattle.algebra.specs.Combination.{combined, itself}
 use Rattle.field.specs.Byte.{bytes, inverse}
+use Rattle.gather.specs.declared.Used.{Used}
+
+-- where the used records lie
+abbrev pub places : List Used → List ℕ
+places us = map (λ u. u.place) us
 
 -- byte `at` of each of the records at these places, each by its index's weight at t
 unfoldable pub mixed : List ℕ → List ℕ → List ℕ → ℕ → ℕ → ℕ → ℕ

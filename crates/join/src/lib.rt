@@ -7,11 +7,13 @@ mod regain;
 mod sources;
 mod tests;
 
-ghost use Rattle.std.specs.Prelude.{◌≡◌, Result};
+ghost use Rattle.std.specs.Prelude.{◌≡◌, true, cond, length, take, drop, Result};
 ghost use Rattle.refusal.specs.declared.Counts.{Counts};
 ghost use Rattle.refusal.specs.declared.Refusal.{Refusal};
+ghost use Rattle.record.specs.Heads.{check_head_of, check_shaped};
 ghost use Rattle.join.specs.Join as joining;
 
+use gather::Used;
 use refusal::{Counts, Refusal};
 use sources::Sources;
 
@@ -29,30 +31,38 @@ pub fn join(wanted: u64, check: &[u8], records: &[u8], out: &mut [u8]) -> Result
         read: held.read as u64,
         indexes: count as u64,
     };
-    let head = record::read_check(check);
-    let m = usize::from(head.m);
+    let m = usize::from(record::read_check(check).m);
     if count != m {
         return Err(Refusal::TooFew(counts));
     }
-    let mut indexes = [0u8; 255];
-    let mut places = [0usize; 255];
-    let mut spreads = [0u8; 255];
-    sources::apart(used, &mut indexes[..count], &mut places[..count]);
-    code::each_spread(&indexes[..count], &mut spreads[..count]);
-    let size = code::body_length(head.length, head.m);
-    let sources = Sources {
-        records,
-        stride: gather::stride(check),
-        size,
-        indexes: &indexes[..count],
-        spreads: &spreads[..count],
-        places: &places[..count],
-    };
-    let rebuilt = block::rebuild(out, sources);
-    if !rebuilt {
+    if !rebuild_from(check, records, used, out) {
         return Err(Refusal::Fill(counts));
     }
     Ok(counts)
+}
+
+// The block from the m records that are used: false, with nothing written, where the fill is not zero.
+fn rebuild_from(check: &[u8], records: &[u8], used: &[Used], out: &mut [u8]) -> bool
+    requires tested { (check_shaped check.now ≡ true) × (joining.lengths_fit check.now records.now out.old ≡ true) }
+    requires used_value { used.now ≡ joining.all_used (check_head_of check.now).number check.now records.now }
+    requires enough { length used.now ≡ (check_head_of check.now).m }
+    ensures value { let c = check_head_of check.now in result ≡ joining.all_zero (drop c.length (joining.padded c.number check.now records.now)) }
+    ensures out_after { let c = check_head_of check.now in out.new ≡ cond result (take c.length (joining.padded c.number check.now records.now)) out.old }
+{
+    let head = record::read_check(check);
+    let count = used.len();
+    let indexes = sources::apart(used);
+    let mut spreads = [0u8; 255];
+    code::each_spread(&indexes[..count], &mut spreads[..count]);
+    let sources = Sources {
+        records,
+        stride: gather::stride(check),
+        size: code::body_length(head.length, head.m),
+        used,
+        indexes: &indexes[..count],
+        spreads: &spreads[..count],
+    };
+    block::rebuild(out, sources)
 }
 
 /// The promise is in numbers, and these fix the answer.

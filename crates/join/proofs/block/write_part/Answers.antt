@@ -3,6 +3,7 @@ use Prim.Native.Nat.{◌+◌, ◌*◌, ◌/◌, ◌%◌, ◌<◌}
 use native.Mathlib.Omega.{arith}
 use lib.ListN.{length}
 use Rattle.code.proofs.Bodies.{row, place}
+use Rattle.join.specs.Parts.{places}
 use Rattle.join.proofs.Blocks.{run_more}
 use Rattle.join.proofs.block.write_part.Goals as goal
 
@@ -12,7 +13,7 @@ loop-done-preserved c =
     let l : q < length c.args.sources.indexes.now * c.args.sources.size = omega (arith, c.requires.0, c.loop-done.invariant.1.long) in
     (row (length c.args.sources.indexes.now) c.args.sources.size q l, place (length c.args.sources.indexes.now) c.args.sources.size q l) in (
       omega (arith, c.min.ensures, c.loop-done.invariant.1.long),
-      run_more c.args.sources.indexes.now c.args.sources.places.now c.args.sources.records.now c.args.sources.stride c.args.sources.size c.args.first _ c.loop-done.done c.min.result c.loop-done.out c.write_run.new.out
+      run_more c.args.sources.indexes.now (places c.args.sources.used.now) c.args.sources.records.now c.args.sources.stride c.args.sources.size c.args.first _ c.loop-done.done c.min.result c.loop-done.out c.write_run.new.out
           (omega (arith, (left).1)) (omega (arith, c.min.ensures, (left).1)) (omega (arith, c.min.ensures, c.loop-done.invariant.1.long))
           c.write_run.ensures c.loop-done.invariant.1,
     )
