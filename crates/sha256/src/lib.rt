@@ -40,6 +40,7 @@ pub fn sha256(body: &[u8]) -> Result<[u8; 32], Refusal>
 }
 
 /// The digest of bytes of any length.
+#[tactic(auto, using(crate::proofs::Pieces::whole))]
 pub fn digest(message: &[u8]) -> [u8; 32]
     ensures { result ≡ SHA_256 message.now }
 {
