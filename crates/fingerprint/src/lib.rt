@@ -36,7 +36,6 @@ pub fn fingerprint(seed: u32, body: &[u8]) -> Result<Column, Refusal>
 }
 
 /// What `fingerprint` promises fixes its answer.
-#[tactic(auto, using(crate::proofs::Outcome::one_answer))]
 pub fn one_answer()
     ensures { (seed : ℕ) (body : List ℕ) (a b : Result FieldColumn Refusal) → answer.numbers_of a ≡ answer.fingerprinted seed body → answer.numbers_of b ≡ answer.fingerprinted seed body → a ≡ b }
 {}
