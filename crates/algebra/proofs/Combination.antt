@@ -1,9 +1,8 @@
 -- Combinations of combinations compose, in any space over the carrier.
 use mathlib.Core.Path.{◌≡◌, refl, sym, ap, ap₂, ◌∙◌}
 use mathlib.Core.List.{List, [], ◌∷◌, map}
-use Rattle.algebra.specs.Carrier.{Carrier, Laws}
+use Rattle.algebra.specs.Carrier.{Carrier}
 use Rattle.algebra.specs.Combination.{Space, SpaceLaws, combined, itself}
-use Rattle.algebra.proofs.Ring.{none_product, product_none, unit_product, product_sum, sum_product}
 
 module _ {A B : Type 0} (K : Carrier A) (S : Space A B) (M : SpaceLaws K S) where
   open S use {plus as ◌⊕◌}

@@ -1,12 +1,10 @@
 -- What the loops over points rest on: lists walked from the last entry to the first, and lists filled from the front.
-use mathlib.Core.Path.{◌≡◌, sym, ap, subst₂, ◌∙◌}
+use mathlib.Core.Path.{◌≡◌, sym, ◌∙◌}
 use mathlib.Core.List.{List, [], ◌∷◌}
-use Prim.Native.Nat.{ℕ, zero, suc, ◌+◌, ◌<◌, ◌≤◌}
-use native.Mathlib.Nat.{not-suc-le-zero}
-use native.Mathlib.Decide.{ℕ_discrete}
+use Prim.Native.Nat.{ℕ, zero, suc, ◌<◌, ◌≤◌}
 use native.Mathlib.Omega.{arith}
-use lib.ListN.{length, get_or, set, length-set}
-use lib.Seq.{get_or-set_same, get_or-set_other, ext_get_or}
+use lib.ListN.{length, get_or}
+use lib.Seq.{ext_get_or}
 use Rattle.algebra.specs.Several.{listed, All}
 use Rattle.algebra.proofs.Several.{listed_length, listed_at}
 use Rattle.code.proofs.Plain.{Small}

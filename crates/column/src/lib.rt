@@ -102,7 +102,11 @@ impl<'a> From<&'a [u8]> for Column {
 
     fn from(bytes: &'a [u8]) -> Column {
         match bytes {
-            [a, b, c, ..] => Column { a: *a, b: *b, c: *c },
+            [a, b, c, ..] => Column {
+                a: *a,
+                b: *b,
+                c: *c,
+            },
             [a, b] => Column { a: *a, b: *b, c: 0 },
             [a] => Column { a: *a, b: 0, c: 0 },
             [] => Column::ZERO,

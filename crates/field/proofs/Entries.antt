@@ -1,6 +1,5 @@
 -- The two tables of the code have their rules: that of the powers passes the test, which antt computes over its 510 entries, and that of
 -- the places is the list of places that antt computes.
-use mathlib.Core.Path.{◌≡◌, refl, sym, subst}
 use Rattle.field.specs.Byte.{plus, xtime, product, times, Powers, Places}
 use Rattle.field.specs.declared.tables.TheConstants.{POWERS, PLACES}
 use Rattle.field.proofs.Power.{follows, tested}

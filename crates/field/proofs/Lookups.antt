@@ -28,9 +28,6 @@ power_times a b j k ea eb = power_add 3 j k (omega arith) ∙ ap₂ times ea eb
 pub power_inverse : (a k : ℕ) → k < 255 → power 3 k ≡ a → power 3 (255 - k) ≡ inverse a
 power_inverse a k h e = sym (inverse_power a k (omega arith) e)
 
-pub power_quotient : (a b j k : ℕ) → k < 255 → power 3 j ≡ a → power 3 k ≡ b → power 3 (j + (255 - k)) ≡ times a (inverse b)
-power_quotient a b j k h ea eb = power_times a (inverse b) j (255 - k) ea (power_inverse b k h eb)
-
 -- what is read for 00 says nothing, and is multiplied away
 pub power_multiple : (b j k : ℕ) → (b ≢ 0 → power 3 k ≡ b) → bool_byte (not (eqb b 0)) * power 3 (j + k) ≡ times (power 3 j) b
 power_multiple b j k at =

@@ -1,6 +1,6 @@
 //! The bytes as the field of FIPS 197: sum, product, inverse and quotient of two bytes, the row of all products by one byte, and a
-//! multiple of some bytes added to others. Products stand on one table of the powers of 03; a function of many products reads each
-//! table once. No public function asks anything of its caller.
+//! multiple of some bytes added to others. Products stand on one table of the powers of 03, which is read in place. No public
+//! function asks anything of its caller.
 #![tactic(auto)]
 
 mod adding;
@@ -41,14 +41,11 @@ pub fn inverse(a: u8) -> u8
     power(255 - place(a))
 }
 
-/// a times the inverse of b, so 0 where b is 0. Not by `times` and `inverse`, which would read each table twice.
+/// a times the inverse of b, so 0 where b is 0.
 pub fn quotient(a: u8, b: u8) -> u8
     ensures { result ≡ byte.times a (byte.inverse b) }
 {
-    if a == 0 || b == 0 {
-        return 0;
-    }
-    power(place(a) + (255 - place(b)))
+    times(a, inverse(b))
 }
 
 /// Entry x is the product of `by` and x: one lookup for each product by the same byte.
