@@ -53,6 +53,7 @@ fn bit_count(l: u64) -> [u8; 8]
 }
 
 // A hash value as bytes.
+#[tactic(auto, unfolding(crate::specs::Fips180::bytes, crate::specs::Fips180::digest), using(crate::proofs::Ending::four))]
 fn digest(s: State) -> [u8; 32]
     ensures { result ≡ fips_digest s }
 {
