@@ -16,7 +16,7 @@ pub struct Used {
 }
 
 /// How many records were read, and those that are used, in the order in which they were read.
-#[derive(Drop)]
+#[derive(Clone, Debug, PartialEq, Eq, Drop)]
 pub struct Gathered {
     pub read: usize,
     pub used: ArrayVec<Used, 255>,
