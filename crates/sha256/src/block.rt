@@ -95,7 +95,7 @@ fn along(s: State, k: &[u32; 16], w: &mut [u32; 16]) -> State
     v
 }
 
-// The last sixteen turns, after which no word is due. A straight line: with a loop here alone, which proves too, the hash is 1.05
+// The last sixteen turns, after which no word is due. A straight line: with a loop here alone, which proves too, the hash is 1.06
 // times as slow (measured 2026-11-27).
 fn last(s: State, k: &[u32; 16], w: &[u32; 16]) -> State
     ensures { (m : List ℕ) (v : FipsState) (t : ℕ) → t ≤ 48 → k.now ≡ take 16 (drop t fips_K) → w.now ≡ take 16 (drop t (W 64 m)) → s ≡ turns t (W 64 m) v → result ≡ turns (t + 16) (W 64 m) v }
