@@ -1,8 +1,8 @@
--- Big-endian numbers of any count of bytes: what was written is read back.
+-- Big-endian numbers of any count of bytes: what is read is small enough, and what was written is read back.
 use mathlib.Core.Path.{◌≡◌, refl, sym, ap, ap₂, ◌∙◌}
 use mathlib.Core.List.{List, [], ◌∷◌, ◌++◌, append_assoc}
-use Prim.Native.Nat.{ℕ, zero, suc, ◌+◌, ◌*◌, ◌/◌, ◌%◌, ◌^◌, ◌<◌}
-use native.Mathlib.Nat.{pow-suc, div-add-mod', div-lt_iff_lt-mul}
+use Prim.Native.Nat.{ℕ, zero, suc, ◌+◌, ◌*◌, ◌/◌, ◌%◌, ◌^◌, ◌≤◌, ◌<◌}
+use native.Mathlib.Nat.{pow-suc, pow-le-pow_right, div-add-mod', div-lt_iff_lt-mul}
 use native.Mathlib.Omega.{arith}
 use lib.Dec.{lit<}
 use lib.ListN.{length, get_or, length-append}
@@ -13,6 +13,18 @@ pub big_length : (k n : ℕ) → length (big k n) ≡ k
 unfolding big
 big_length zero n = refl
 big_length (suc k) n = length-append (big k (n / 256)) (n % 256 ∷ []) ∙ omega (arith, big_length k (n / 256))
+
+-- k bytes stand for a number below 256 to the power k
+pub number_below : (k at : ℕ) (l : List ℕ) → ((i : ℕ) → get_or l i 0 < 256) → number_at k at l < 256 ^ k
+unfolding number_at
+number_below zero at l bytes = lit< tt
+number_below (suc k) at l bytes = rw pow-suc (omega (arith, number_below k at l bytes, bytes (at + k)))
+
+-- eight bytes fit 64 bits, at every step of reading them
+pub number_fits : (k at : ℕ) (l : List ℕ) → ((i : ℕ) → get_or l i 0 < 256) → k < 8 → number_at k at l * 256 + 255 < 2 ^ 64
+number_fits k at l bytes h =
+    let most : 256 ^ k ≤ 256 ^ 7 = pow-le-pow_right (lit< tt) {i = k} {j = 7} (omega arith) in
+    omega (arith, number_below k at l bytes)
 
 -- the k bytes of a number, wherever they stand, are read as that number
 pub number_back : (k n at : ℕ) (a b : List ℕ) → n < 256 ^ k → length a ≡ at → number_at k at (a ++ (big k n ++ b)) ≡ n

@@ -8,12 +8,15 @@ use crate::places::{CHECK_MARK, FRAGMENT_MARK, NUMBER_AT, VERSION_AT};
 use crate::{CheckHead, FragmentHead};
 
 /// Copies the bytes to the start of `out`, where they fit.
-#[tactic(auto, unfolding(crate::specs::Put::put))]
+/// Byte by byte: with std's copy of a slice the archive would ask whoever links it for a `memmove`, which a head has not.
 pub fn put(out: &mut [u8], bytes: &[u8])
     ensures { out.new ≡ buffer.put bytes.now out.old }
 {
-    if bytes.len() <= out.len() {
-        out[..bytes.len()].copy_from_slice(bytes);
+    if out.len() < bytes.len() {
+        return;
+    }
+    for k in 0..bytes.len() {
+        out[k] = bytes[k];
     }
 }
 
