@@ -56,7 +56,8 @@ fn read_full(file: &mut File, out: &mut [u8]) -> usize
 fn read_cases(file: &[u8]) -> Tally {
     let mut message = [0; 65538];
     let mut tally = Tally::default();
-    for line in file.split(|byte| *byte == b'\n') {
+    let lines = file.split(|byte| *byte == b'\n');
+    for line in lines.filter(|line| !line.is_empty()) {
         read_line(line, &mut message, &mut tally);
     }
     tally

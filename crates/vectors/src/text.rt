@@ -2,13 +2,14 @@
 //! what keeps it within the text.
 ghost use Rattle.std.specs.Prelude.{◌<◌};
 
-/// The decimal number that text begins with, or the most that fits.
+/// The decimal number that text begins with, or the most that fits, with no digit read past the one that no longer fits.
 pub fn number(text: &[u8]) -> usize {
     text.iter()
         .map_while(|byte| char::from(*byte).to_digit(10))
-        .fold(0, |n: usize, digit| {
-            n.saturating_mul(10).saturating_add(digit as usize)
+        .try_fold(0, |n: usize, digit| {
+            n.checked_mul(10)?.checked_add(digit as usize)
         })
+        .unwrap_or(usize::MAX)
 }
 
 /// The bytes that the hexadecimal digits at the start of text spell, as many as fill out.
