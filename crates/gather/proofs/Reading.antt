@@ -20,6 +20,11 @@ last_place_is [] u = refl
 last_place_is (v ∷ []) u = refl
 last_place_is (v ∷ w ∷ us) u = last_place_is (w ∷ us) u
 
+-- where all m are found it is the place of the last one used, counted from 1: that of the m-th different accepted record
+pub read_found : (m : ℕ) (us : List Used) (u : Used) (k : ℕ) → length (us ++ (u ∷ [])) ≡ m → read_count m (us ++ (u ∷ [])) k ≡ suc u.place
+unfolding read_count
+read_found m us u k full = rw (eq-eqb _ _ full, read_count) (last_place_is us u)
+
 -- where fewer are, it is all of them
 pub read_missed : (m : ℕ) (us : List Used) (k : ℕ) → length us < m → read_count m us k ≡ k
 unfolding read_count

@@ -6,6 +6,7 @@ use Rattle.record.specs.Heads.{check_head_of}
 use Rattle.inspect.specs.Check.{size_of, checked}
 use Rattle.gather.specs.declared.Gathered.{Gathered}
 use Rattle.gather.specs.declared.Used.{Used}
+use Rattle.gather.specs.Held.{held}
 
 -- how long each of the records is: 18 + F
 unfoldable pub stride : List ℕ → ℕ
@@ -46,4 +47,4 @@ unfoldable pub gathered : ℕ → List ℕ → List ℕ → Gathered
 gathered wanted check records =
     let k = count_of check records in
     let us = used wanted check records k in
-    record { read = read_count (check_head_of check).m us k; used = record { items = us } }
+    record { read = read_count (check_head_of check).m us k; used = held us }

@@ -2,11 +2,13 @@
 //! `stride` is how long each of the records is. No public function asks anything of its caller.
 #![tactic(auto)]
 
+mod room;
+
 ghost use Rattle.std.specs.Prelude.{◌≡◌};
 ghost use Rattle.gather.specs.Gather as gathering;
 
-use arrayvec::ArrayVec;
 use inspect::Verdict;
+pub use room::UsedRecords;
 
 /// A record that is used: its index, and its place among the records, from 0.
 #[derive(Clone, Copy, Debug, PartialEq, Eq, Hash, Default)]
@@ -16,10 +18,10 @@ pub struct Used {
 }
 
 /// How many records were read, and those that are used, in the order in which they were read.
-#[derive(Clone, Debug, PartialEq, Eq, Drop)]
+#[derive(Clone, Copy, Debug, PartialEq, Eq)]
 pub struct Gathered {
     pub read: usize,
-    pub used: ArrayVec<Used, 255>,
+    pub used: UsedRecords,
 }
 
 /// How long each record is that belongs to this check record.
@@ -32,14 +34,14 @@ pub fn stride(check: &[u8]) -> usize
 }
 
 /// Stops at the m-th record that it uses, or at the end. What is left over behind the last whole record is not read.
-#[tactic(auto, using(crate::proofs::Places::some_stride, crate::proofs::Whole::starts))]
+#[tactic(auto, using(crate::proofs::Places::some_stride))]
 pub fn gather(wanted: u64, check: &[u8], records: &[u8]) -> Gathered
     ensures { result ≡ gathering.gathered wanted check.now records.now }
 {
     let m = usize::from(record::read_check(check).m);
     let stride = stride(check);
     let count = records.len() / stride;
-    let mut used = ArrayVec::new();
+    let mut used = UsedRecords::new();
     for place in 0..count {
         if used.len() == m {
             return Gathered { read: place, used };

@@ -28,9 +28,11 @@ use Rattle.inspect.proofs.Called.{index_below}
 use Rattle.inspect.proofs.Shaped.{both_left, both_right}
 use Rattle.gather.specs.declared.Gathered.{Gathered}
 use Rattle.gather.specs.declared.Used.{Used}
+use Rattle.gather.specs.Held.{items}
 use Rattle.gather.specs.Gather.{stride, count_of, read_count, gathered}
 use Rattle.gather.proofs.Uses.{indexes, Sound, sound}
 use Rattle.gather.proofs.Places.{place_within}
+use Rattle.gather.proofs.Rooms.{items_held}
 use Rattle.join.specs.Join.{Joined, numbers_of, all_used, padded, all_zero, lengths_fit, join_number, counted, join_answer, join_output}
 use Rattle.join.specs.Fit.{Fit}
 use Rattle.join.specs.Parts.{places, block_byte}
@@ -234,12 +236,12 @@ module _ (wanted : ℕ) (check records out : List ℕ) where
   unfolding join_output
   left n e = sym (ap (λ (k : ℕ). cond (eqb k 0) (take c.length (padded wanted check records)) out) e)
 
-  module _ (g : Gathered) (eg : g ≡ gathered wanted check records) (seen : List Used) (lent : seen ≡ g.used.items) where
+  module _ (g : Gathered) (eg : g ≡ gathered wanted check records) (seen : List Used) (lent : seen ≡ items g.used) where
     pub used_are : seen ≡ us
     unfolding gathered
-    used_are = lent ∙ ap (λ (h : Gathered). h.used.items) eg
+    used_are = lent ∙ items_held g.used us (ap (λ (h : Gathered). h.used) eg)
 
-    count_is : length seen ≡ length us
+    pub count_is : length seen ≡ length us
     count_is = ap length used_are
 
     read_is : g.read ≡ read_count c.m us (count_of check records)

@@ -7,10 +7,10 @@ mod regain;
 mod sources;
 mod tests;
 
-ghost use Rattle.std.specs.Prelude.{◌≡◌, true, cond, length, take, drop, Result};
+ghost use Rattle.std.specs.Prelude.{◌≡◌, true, cond, eqb, length, take, drop, Result};
 ghost use Rattle.refusal.specs.declared.Counts.{Counts};
 ghost use Rattle.refusal.specs.declared.Refusal.{Refusal};
-ghost use Rattle.record.specs.Heads.{check_head_of, check_shaped};
+ghost use Rattle.record.specs.Heads.{check_head_of, check_marked, check_shaped};
 ghost use Rattle.join.specs.Join as joining;
 
 use gather::Used;
@@ -24,6 +24,21 @@ pub fn join(wanted: u64, check: &[u8], records: &[u8], out: &mut [u8]) -> Result
     ensures out_after { out.new ≡ joining.join_output wanted check.now records.now out.old }
 {
     tests::test(wanted, check, records, out)?;
+    gather_and_rebuild(wanted, check, records, out)
+}
+
+// What passes the tests, joined. Not inlined: a function clears the room of its locals when it is entered, and a refused join needs none.
+#[inline(never)]
+fn gather_and_rebuild(
+    wanted: u64,
+    check: &[u8],
+    records: &[u8],
+    out: &mut [u8],
+) -> Result<Counts, Refusal>
+    requires { (check_marked check.now ≡ true) × ((check_shaped check.now ≡ true) × ((eqb (check_head_of check.now).number wanted ≡ true) × (joining.lengths_fit check.now records.now out.old ≡ true))) }
+    ensures value { joining.numbers_of result ≡ joining.join_answer wanted check.now records.now out.old }
+    ensures out_after { out.new ≡ joining.join_output wanted check.now records.now out.old }
+{
     let held = gather::gather(wanted, check, records);
     let used = held.used.as_slice();
     let count = used.len();
