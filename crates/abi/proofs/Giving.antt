@@ -15,6 +15,11 @@ pub told : (r : Refusal) (number given n : ℕ) (buffer : List ℕ) → given �
 unfolding numbered
 told r number given n buffer eg e = eg ∙ e ∙ simp (ne_eqb number 0 (λ none. not_none r (e ∙ none)))
 
+pub refused : (number n : ℕ) (result buffer : List ℕ) → (number ≡ 0 → ⊥)
+    → (number ≡ numbered number n buffer) × (buffer ≡ held number result buffer)
+unfolding numbered
+refused number n result buffer h = (simp (ne_eqb number 0 h), simp (ne_eqb number 0 h))
+
 pub put : (number : ℕ) (result buffer : List ℕ) → number ≡ 0 → length buffer ≡ length result
     → (0 ≡ numbered number (length result) buffer) × (result ≡ held 0 result buffer)
 unfolding numbered

@@ -9,13 +9,14 @@ ghost use lib.ListN.{length};
 ghost use Rattle.sha256.specs.Hash.{answered};
 ghost use Rattle.record.specs.Layout.{column_bytes};
 ghost use Rattle.fingerprint.specs.Answer.{fingerprinted};
+ghost use Rattle.inspect.specs.Answer.{reason_answer};
 ghost use Rattle.inspect.specs.Check.{checked, opened, opened_place};
 ghost use Rattle.cut.specs.Cut as cutting;
 ghost use Rattle.cut.specs.Standard as standard;
 ghost use Rattle.join.specs.Join as joining;
 ghost use Rattle.abi.specs.Abi.{numbered};
 
-use inspect::Verdict;
+use inspect::{Reason, Verdict};
 use refusal::Refusal;
 
 pub fn rwk_cut(
@@ -74,9 +75,9 @@ pub fn rwk_check(wanted: u64, check: &[u8], fragment: &[u8], value: &mut u64) ->
             0
         }
         Verdict::Refused(reason) => {
-            let refusal = Refusal::from(reason);
-            *value = refusal.values().0;
-            refusal.number()
+            let (number, found) = in_numbers(reason);
+            *value = found;
+            number
         }
     }
 }
@@ -100,9 +101,10 @@ pub fn rwk_open(
             0
         }
         Verdict::Refused(reason) => {
+            let (number, _) = in_numbers(reason);
             *start = 0;
             *length = 0;
-            Refusal::from(reason).number()
+            number
         }
     }
 }
@@ -151,6 +153,14 @@ pub fn rwk_fingerprint(seed: u32, body: &[u8], column: &mut [u8]) -> u32
         Ok(print) => give(&print.to_bytes(), column),
         Err(refusal) => refusal.number(),
     }
+}
+
+// Why a check refuses, as the table's number and the value beside it.
+fn in_numbers(reason: Reason) -> (u32, u64)
+    ensures { let told = reason_answer reason in result ≡ (told.number, told.value) }
+{
+    let refusal = Refusal::from(reason);
+    (refusal.number(), refusal.values().0)
 }
 
 // Puts a result into the buffer, unless that has another length.
