@@ -1,8 +1,24 @@
 -- Combinations of combinations compose, in any space over the carrier.
 use mathlib.Core.Path.{◌≡◌, refl, sym, ap, ap₂, ◌∙◌}
 use mathlib.Core.List.{List, [], ◌∷◌, map}
-use Rattle.algebra.specs.Carrier.{Carrier}
+use Rattle.algebra.specs.Carrier.{Carrier, Laws}
 use Rattle.algebra.specs.Combination.{Space, SpaceLaws, combined, itself}
+use Rattle.algebra.proofs.Ring.{none_product, product_none, unit_product, product_sum, sum_product}
+
+-- every carrier is a space over itself
+pub itself_laws : {A : Type 0} (K : Carrier A) (L : Laws K) → SpaceLaws K (itself K)
+itself_laws K L =
+    record {
+      plus_assoc = L.plus_assoc;
+      plus_comm = L.plus_comm;
+      plus_none = L.plus_none;
+      scaled_none = none_product K L;
+      none_scaled = product_none K L;
+      scaled_unit = unit_product K L;
+      scaled_plus = product_sum K L;
+      plus_scaled = sum_product K L;
+      scaled_scaled = λ a b v. sym (L.times_assoc a b v);
+    }
 
 module _ {A B : Type 0} (K : Carrier A) (S : Space A B) (M : SpaceLaws K S) where
   open S use {plus as ◌⊕◌}

@@ -1,8 +1,8 @@
--- How long a body is: the two cases of `body_length`.
+-- How long a body is: the two cases of `body_length`, and that it fits.
 use mathlib.Core.Path.{◌≡◌, sym, ap, ◌∙◌}
 use mathlib.Core.Logic.{◌≢◌}
-use Prim.Native.Nat.{ℕ, ◌+◌, ◌-◌, ◌*◌, ◌/◌, ◌%◌, ◌<◌, ◌≤◌, min}
-use native.Mathlib.Nat.{div-zero, le-div_iff_mul-le, div-lt_iff_lt-mul, add-mul, one-mul}
+use Prim.Native.Nat.{ℕ, ◌+◌, ◌-◌, ◌*◌, ◌/◌, ◌%◌, ◌^◌, ◌<◌, ◌≤◌, min}
+use native.Mathlib.Nat.{div-zero, div-le_self, le-div_iff_mul-le, div-lt_iff_lt-mul, add-mul, one-mul}
 use native.Mathlib.Omega.{arith}
 use Rattle.std.proofs.lemmas.Grind.{div_ceil_times}
 use Rattle.code.specs.Cutting.{body_length}
@@ -26,3 +26,6 @@ pub some_bodies : (L m w : ℕ) → w ≡ m → m ≢ 0 → 3 * (L / (3 * w) + m
 unfolding body_length
 some_bodies L m w e some =
     ap (λ (x : ℕ). 3 * (L / (3 * x) + min 1 (L % (3 * x)))) e ∙ ap (λ (x : ℕ). 3 * x) (rounded_up L (3 * m) (omega arith))
+
+pub length_fits : (L w : ℕ) → L < 2 ^ 32 → w < 256 → 3 * ((L + (3 * w - 1)) / (3 * w)) < 2 ^ 64
+length_fits L w hl hw = omega (arith, div-le_self (L + (3 * w - 1)) (3 * w))

@@ -1,5 +1,5 @@
 -- Values written over a list from the front: the loops of `weights`.
-use mathlib.Core.Path.{◌≡◌, sym, ap, ap₂, ◌∙◌}
+use mathlib.Core.Path.{◌≡◌, refl, sym, ap, ap₂, ◌∙◌}
 use mathlib.Core.List.{List, ◌++◌, append-nil}
 use Prim.Native.Nat.{ℕ, ◌+◌, ◌<◌, min}
 use native.Mathlib.Nat.{zero-add}
@@ -7,7 +7,7 @@ use native.Mathlib.Numerals.{add-one}
 use native.Mathlib.Decide.{dec_le}
 use native.Mathlib.Omega.{arith}
 use lib.ListN.{length, get_or, take, drop, set, length-set, drop_of_length-le}
-use lib.Seq.{take_all, paste, paste-suc}
+use lib.Seq.{take_all, paste, paste-zero, paste-suc}
 use Rattle.code.specs.Shares.{overlaid}
 
 -- the first k values have been written
@@ -16,6 +16,9 @@ pub record Overlaying (values out₀ : List ℕ) (k : ℕ) (out : List ℕ) : Ty
   pub done : out ≡ paste out₀ 0 values k
 
 module _ (values out₀ : List ℕ) where
+  pub none_over : Overlaying values out₀ 0 out₀
+  none_over = record { long = refl; done = paste-zero out₀ 0 values }
+
   pub one_over : (k : ℕ) (out : List ℕ) (v : ℕ) → k < length values → k < length out₀ → v ≡ get_or values k 0 → Overlaying values out₀ k out
       → Overlaying values out₀ (k + 1) (set out k v)
   one_over k out v hv ho e O =

@@ -4,7 +4,7 @@ use mathlib.Core.List.{List, ◌∷◌, ◌++◌, append_assoc}
 use Prim.Native.Nat.{ℕ, zero, suc, ◌+◌, ◌-◌, ◌*◌, ◌<◌, ◌≤◌}
 use native.Mathlib.Nat.{le_trans}
 use native.Mathlib.Omega.{arith}
-use borrow.Rule.Slice.PartMut.{put_mid}
+use borrow.Rule.Slice.PartMut.{mid_of, put_mid, same_len_mid}
 use lib.ListN.{length, take, drop, length-drop, length-append}
 use lib.Seq.{take_at, drop_at, take-add, drop-drop, drop-append-le, take-append-le, length-take-le}
 use Rattle.algebra.specs.Several.{listed, end_to_end}
@@ -15,10 +15,10 @@ use Rattle.code.specs.Cutting.{body_length, body, byte_of}
 use Rattle.fingerprint.specs.Fingerprint.{columns_of, fingerprint_at}
 use Rattle.sha256.specs.Fips180.{SHA_256}
 use Rattle.sha256.proofs.Lengths.{length_SHA_256}
-use Rattle.record.specs.Layout.{column_bytes, written_version, hashes_place, prints_place, body_place, record_length}
+use Rattle.record.specs.Layout.{column_bytes, written_version, hashes_place, prints_place, check_length, body_place, record_length}
 use Rattle.record.specs.Records.{check_head, check_record, fragment_head, fragment_record}
 use Rattle.record.specs.Put.{put}
-use Rattle.record.proofs.Buffer.{put_fits, rest_back}
+use Rattle.record.proofs.Buffer.{put_fits, rest_lent, rest_back}
 use Rattle.record.proofs.ReadBack.{check_head_length, fragment_head_length}
 use Rattle.cut.specs.Cut.{body_of, fragments, check_of, check, body_among}
 use Rattle.cut.proofs.Filling.{within, part_back}
@@ -30,6 +30,10 @@ behind p F l h = ap (drop p) (take-add p F l) ∙ drop_at (take p l) (take F (dr
 pub body_size : (m F : ℕ) (block : List ℕ) (i : ℕ) → length (body m F block i) ≡ F
 unfolding body
 body_size m F block i = listed_length F (byte_of m F block i)
+
+-- room behind a place
+pub rest_room : (o : List ℕ) (place size : ℕ) → length o ≡ place + size → length (mid_of place (length o - place) o) ≡ size
+rest_room o place size e = ap length (rest_lent o place) ∙ length-drop place o ∙ omega arith
 
 module _ (v number i : ℕ) where
   pub fragment_record_length : (b : List ℕ) → length (fragment_record v number i b) ≡ record_length v (length b)
@@ -118,6 +122,11 @@ unfolding columns_of listed end_to_end
 columns_back zero g = refl
 columns_back (suc m) g = ap (λ (l : List Column). g zero ∷ l) (columns_back m (λ k. g (suc k)))
 
+-- room for the last of three parts of a buffer
+pub last_room : (o hashes : List ℕ) (h p size : ℕ) → length hashes ≡ length (mid_of h (p - h) o) → length o ≡ p + size
+    → length (mid_of p (length (put_mid h (p - h) o hashes) - p) (put_mid h (p - h) o hashes)) ≡ size
+last_room o hashes h p size e whole = rest_room (put_mid h (p - h) o hashes) p size (same_len_mid h (p - h) o hashes e ∙ whole)
+
 -- three parts of a buffer, written one after the other
 module _ (head l o hashes : List ℕ) (h p : ℕ) (eh : length head ≡ h) (ep : length hashes ≡ p - h) (order : h ≤ p) (room : p ≤ length l)
     (eo : o ≡ put head l) where
@@ -149,6 +158,18 @@ module _ (m n seed number L : ℕ) (bodies : ℕ → List ℕ) where
   parts : check_of m n seed number L bodies ≡ head_of ++ (hashes_of n bodies ++ prints_of m (from_seed seed) bodies)
   unfolding check_of check_record head_of
   parts = refl
+
+  pub check_of_length : length (check_of m n seed number L bodies) ≡ check_length written_version m n
+  check_of_length =
+      ap length parts
+      ∙ omega (
+        arith,
+        length-append head_of (hashes_of n bodies ++ prints_of m (from_seed seed) bodies),
+        length-append (hashes_of n bodies) (prints_of m (from_seed seed) bodies),
+        head_long,
+        hashes_length n bodies,
+        prints_length m (from_seed seed) bodies,
+      )
 
   -- hash i
   pub hash_back : (i : ℕ) → i < n → take 32 (drop (hashes_place written_version + 32 * i) (check_of m n seed number L bodies)) ≡ SHA_256 (bodies i)

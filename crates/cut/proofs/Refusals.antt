@@ -6,13 +6,13 @@ use Prim.Native.Nat.{ℕ, ◌*◌, ◌≤◌}
 use native.Mathlib.Omega.{arith}
 use lib.Dec.{eqb, leb}
 use lib.ListN.{length}
-use borrow.Author.Tests.{leb-true, eqb-true}
+use borrow.Author.Tests.{ne_eqb, leb-true, eqb-true}
 use Rattle.limits.specs.Limits.{longest_block, largest_seed}
 use Rattle.code.specs.Cutting.{body_length}
 use Rattle.record.specs.Layout.{written_version, check_length, record_length}
 use Rattle.record.specs.Heads.{counts_fit}
 use Rattle.record.proofs.Counts.{both, Counts, counted}
-use Rattle.cut.specs.Cut.{buffers_fit, cut_number}
+use Rattle.cut.specs.Cut.{buffers_fit, cut_number, held}
 
 -- what has been tested where nothing is refused
 pub record Passed (m n seed : ℕ) (block fragments check : List ℕ) : Type 0 where
@@ -46,3 +46,7 @@ module _ {m n seed : ℕ} {block fragments check : List ℕ} where
             records_fit = eqb-true (length fragments) records fit.0;
             check_fits = eqb-true (length check) (check_length written_version m n) fit.1;
           }
+
+-- a buffer holds what it held
+pub kept : (number : ℕ) (written before : List ℕ) → (number ≡ 0 → ⊥) → before ≡ held number written before
+kept number written before ne = simp (ne_eqb number 0 ne)

@@ -1,4 +1,4 @@
-mod Accepted
-mod Padded
-mod Joined
-mod Demand
+pub mod Accepted
+pub mod Padded
+pub mod Joined
+pub mod Demand

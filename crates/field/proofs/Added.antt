@@ -41,6 +41,9 @@ pub record Adding (by : ℕ) (sum₀ body : List ℕ) (k : ℕ) (sum : List ℕ)
   pub left : added by sum₀ body ≡ take k sum ++ added by (drop k sum) (drop k body)
 
 module _ (by : ℕ) (sum₀ body : List ℕ) where
+  pub add_start : Adding by sum₀ body 0 sum₀
+  add_start = record { long = refl; left = refl }
+
   module _ (k : ℕ) (sum : List ℕ) (hs : k < length sum) (hb : k < length body) (product : ℕ) (e : product ≡ times by (get_or body k 0)) where
     next : ℕ
     next = bit_xor (get_or sum k 0) product

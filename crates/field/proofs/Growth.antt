@@ -19,7 +19,7 @@ at_power : (k : ℕ) → k < 255 → at_place k ≡ power 3 k
 unfolding at_place
 at_power k h = rw (ne_eqb k 255 (omega arith), at_place)
 
-at_zero : (k : ℕ) → k ≡ 255 → at_place k ≡ 0
+pub at_zero : (k : ℕ) → k ≡ 255 → at_place k ≡ 0
 unfolding at_place
 at_zero k e = rw (eq-eqb k 255 e, at_place)
 

@@ -1,13 +1,16 @@
 -- What is known of a check record and of a fragment record that passed the tests of 6 and 8: how long they are, and what lies within.
-use mathlib.Core.Path.{◌≡◌, refl, sym, ap, ◌∙◌}
+use mathlib.Core.Path.{◌≡◌, refl, sym, ap, subst, ◌∙◌}
 use mathlib.Core.Bool.{Bool, true, false, ◌&&◌, false≢true}
 use mathlib.Core.List.{List}
-use Prim.Native.Nat.{ℕ, ◌+◌, ◌*◌, ◌<◌, ◌≤◌}
+use Prim.Native.Nat.{ℕ, ◌+◌, ◌*◌, ◌-◌, ◌<◌, ◌≤◌}
 use native.Mathlib.Omega.{arith}
 use lib.Dec.{eqb, leb}
-use lib.ListN.{length}
-use borrow.Author.Tests.{eqb-true}
-use Rattle.limits.specs.Limits.{longest_block}
+use lib.ListN.{length, take, drop, length-drop}
+use borrow.Author.Tests.{eqb-true, leb-true}
+use borrow.Author.Rules.{part_to_end}
+use Rattle.limits.specs.Limits.{longest_block, longest_body}
+use Rattle.code.specs.Cutting.{body_length}
+use Rattle.code.proofs.Longest.{body_length_fits}
 use Rattle.record.specs.declared.CheckHead.{CheckHead}
 use Rattle.record.specs.declared.FragmentHead.{FragmentHead}
 use Rattle.record.specs.Layout.{fragment_mark, hashes_place, prints_place, check_length, body_place, record_length}
@@ -45,6 +48,13 @@ module _ (check : List ℕ) (shaped : check_shaped check ≡ true) where
     pub prints_within : (at : ℕ) → at ≡ prints_place h.version h.n → at ≤ length check
     prints_within at e = omega (arith, check_sized)
 
+    -- so that no body is too long to be hashed
+    pub size_fits : body_length h.length h.m ≤ longest_body
+    unfolding counts_fit
+    size_fits =
+        subst (λ (g : CheckHead). body_length g.length g.m ≤ longest_body) (sym eh)
+        (body_length_fits c.length c.m (leb-true _ _ (both_left _ _ measured)) (leb-true _ _ (both_left _ _ (both_left _ _ counted))))
+
 module _ (version F : ℕ) (fragment : List ℕ) (shaped : fragment_shaped version F fragment ≡ true) where
   abbrev f : FragmentHead
   f = fragment_head_of fragment
@@ -59,6 +69,10 @@ module _ (version F : ℕ) (fragment : List ℕ) (shaped : fragment_shaped versi
   module _ (at : ℕ) (ea : at ≡ body_place version) where
     pub body_within : at ≤ length fragment
     body_within = omega (arith, whole)
+
+    -- the part from the body's place to the end
+    pub body_sized : length (take (length fragment - at) (drop at fragment)) ≡ F
+    body_sized = ap length (part_to_end fragment at) ∙ omega (arith, length-drop at fragment, whole)
 
 -- the same for a tactic, which finds the head that was read
 pub hash_fits : (check : List ℕ) (h : CheckHead) (i : ℕ) → h ≡ check_head_of check → check_shaped check ≡ true → i < h.n

@@ -18,7 +18,7 @@ use Rattle.record.specs.Records.{check_record}
 use Rattle.record.specs.Heads.{check_head_of}
 use Rattle.record.proofs.Buffer.{rest_lent}
 use Rattle.record.proofs.ReadBack.{check_back}
-use Rattle.cut.specs.Cut.{body_of, fragments, check_of, check, buffers_fit, cut_number}
+use Rattle.cut.specs.Cut.{body_of, fragments, check_of, check, buffers_fit, cut_number, held}
 use Rattle.cut.proofs.Records.{body_back}
 use Rattle.tell.specs.Lines.{refusal_line, check_line, fragment_line, join_line}
 use Rattle.tell.specs.Parts.{print_among, fragment_lines, head_line, answer_line, shown}
@@ -29,6 +29,9 @@ pub refused_is : (m n seed : ℕ) (block a b : List ℕ) → length a ≡ n * re
     → length b ≡ check_length written_version m n → cut_number m n seed block a b ≡ cut_refusal m n seed block
 unfolding cut_refusal cut_number buffers_fit
 refused_is m n seed block a b ea eb = rw (ea, eb, length-replicate, length-replicate) refl
+
+pub written : (number : ℕ) (bytes before : List ℕ) → number ≡ 0 → held number bytes before ≡ bytes
+written number bytes before e = simp (eq-eqb number 0 e)
 
 module _ (m n seed number : ℕ) (block : List ℕ) where
   head_back : number < 2 ^ 64 → length block < 2 ^ 32

@@ -21,6 +21,10 @@ body_short L (suc m) h =
 pub records_short : (n size : ℕ) → n < 256 → size ≤ 531 → n * size ≤ 135405
 records_short n size hn hs = omega (arith, mul-le-mul_right size (let h : n ≤ 255 = omega arith in h))
 
+-- what is left out of the first parts ends before them all
+pub before : (n m size : ℕ) → (n - m) * size ≤ n * size
+before n m size = mul-le-mul_right size (let h : n - m ≤ n = omega arith in h)
+
 pub record_is : (F : ℕ) → record_length written_version F ≡ 18 + F
 unfolding head
 record_is F = refl
@@ -28,5 +32,9 @@ record_is F = refl
 pub check_is : (m n : ℕ) → check_length written_version m n ≡ 22 + 32 * n + 3 * m
 unfolding head
 check_is m n = omega arith
+
+pub check_short : (m n size : ℕ) → m < 256 → n < 256 → size ≡ check_length written_version m n → size ≤ 8947
+unfolding head
+check_short m n size hm hn e = omega arith
 
 pub ruleset room = (body_short, records_short, record_is, check_is, length-take-le)

@@ -1,7 +1,8 @@
 -- What is told of a cut's records: how long each line is, the lines one after the other, and that they are those of the definition.
 use mathlib.Core.Path.{◌≡◌, refl, ap}
 use mathlib.Core.List.{List, [], ◌∷◌, ◌++◌, map, append_assoc}
-use Prim.Native.Nat.{ℕ, zero, suc, ◌+◌, ◌-◌, ◌*◌, ◌≤◌}
+use Prim.Native.Nat.{ℕ, zero, suc, ◌+◌, ◌-◌, ◌*◌, ◌/◌, ◌%◌, ◌≤◌}
+use native.Mathlib.Nat.{mul-mod_right}
 use native.Mathlib.Numerals.{add-one}
 use native.Mathlib.Omega.{arith}
 use lib.ListN.{length, drop, length-append}
@@ -14,7 +15,7 @@ use Rattle.record.specs.declared.CheckHead.{CheckHead}
 use Rattle.record.specs.Heads.{check_head_of}
 use Rattle.record.proofs.Buffer.{rest_lent}
 use Rattle.record.specs.Layout.{written_version, record_length, check_mark}
-use Rattle.tell.specs.Lines.{decimal, hex, fields, line, check_line, fragment_line}
+use Rattle.tell.specs.Lines.{decimal, hex, fields, line, join_mark, check_line, fragment_line, join_line}
 use Rattle.tell.specs.Parts.{print_among, fragment_lines, head_line, answer_line, shown}
 use Rattle.tell.proofs.Decimals.{decimal_short, spelled, spelled_short}
 
@@ -25,6 +26,18 @@ line_length mark ns = omega (arith, length-append mark (spelled ns ++ (10 ∷ []
 pub check_short : (v number L m n : ℕ) → length (check_line v number L m n) ≤ 109
 unfolding check_line
 check_short v number L m n = omega (arith, line_length check_mark (v ∷ number ∷ L ∷ m ∷ n ∷ []))
+
+join_short : (number read L : ℕ) → length (join_line number read L) ≤ 67
+unfolding join_line
+join_short number read L = omega (arith, line_length join_mark (number ∷ read ∷ L ∷ []))
+
+pub answer_short : (number L : ℕ) (check records : List ℕ) → length (answer_line number L check records) ≤ 67
+unfolding answer_line
+answer_short number L check records = join_short _ _ _
+
+pub columns_whole : (L m : ℕ) → body_length L m % 3 ≡ 0
+unfolding body_length
+columns_whole L m = mul-mod_right 3 ((L + (3 * m - 1)) / (3 * m))
 
 fragment_short : (index F : ℕ) (print : Column) → length (fragment_line index F print) ≤ 53
 unfolding fragment_line line fields hex

@@ -1,8 +1,8 @@
-mod Forced
+pub mod Forced
 pub mod Lifted
 pub mod Own
-mod Built
-mod Few
-mod Demand
-mod OneSeed
-mod Numbers
+pub mod Built
+pub mod Few
+pub mod Demand
+pub mod OneSeed
+pub mod Numbers
