@@ -65,15 +65,22 @@ fn read_cases(file: &[u8]) -> Tally {
 
 // One line of a case: its length in bits, its message, or its digest, which ends it. A message that there is no room for is passed over.
 fn read_line(line: &[u8], message: &mut [u8], tally: &mut Tally) {
-    if let Some(bits) = line.strip_prefix(b"Len = ") {
-        tally.length = number(bits) / 8;
-        count_up(message);
-    } else if let Some(message) = message.get_mut(..tally.length) {
-        if let Some(digits) = line.strip_prefix(b"Msg = ") {
-            unhex(digits, message);
-        } else if let Some(digits) = line.strip_prefix(b"MD = ") {
-            end(digits, message, tally);
+    match line {
+        [b'L', b'e', b'n', b' ', b'=', b' ', bits @ ..] => {
+            tally.length = number(bits) / 8;
+            count_up(message);
         }
+        [b'M', b's', b'g', b' ', b'=', b' ', digits @ ..] => {
+            if let Some(message) = message.get_mut(..tally.length) {
+                unhex(digits, message);
+            }
+        }
+        [b'M', b'D', b' ', b'=', b' ', digits @ ..] => {
+            if let Some(message) = message.get_mut(..tally.length) {
+                end(digits, message, tally);
+            }
+        }
+        _ => {}
     }
 }
 
