@@ -5,11 +5,11 @@ ghost use Rattle.gather.specs.Held.{held, items};
 
 use crate::Used;
 
-/// Used records, at most 255, in the order in which they were read; what lies behind them in their room is zero.
+/// Used records, at most 255, in the order in which they were read: the first `count` of the room. `gather` leaves zeros behind them.
 #[derive(Clone, Copy, Debug, PartialEq, Eq)]
 pub struct UsedRecords {
-    count: u8,
-    room: [Used; 255],
+    pub count: u8,
+    pub room: [Used; 255],
 }
 
 impl UsedRecords {
